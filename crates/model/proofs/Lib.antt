@@ -1,0 +1,6 @@
+-- Laws of the lookups.
+pub mod Tests
+pub mod Places
+pub mod Search
+pub mod ReturnLoops
+pub mod ScopeChain

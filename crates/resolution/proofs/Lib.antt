@@ -1,0 +1,19 @@
+-- Laws of the definitions of types and of running a program; demand 3.
+pub mod Rows
+pub mod RunLaws
+pub mod Tables
+pub mod Steady
+pub mod Safe
+pub mod SafeReads
+pub mod SafePrograms
+pub mod Steps
+pub mod Found
+pub mod FoundBySearch
+pub mod SameLookups
+pub mod SamePrograms
+pub mod Secrecy
+pub mod ByQuestion
+pub mod LineFits
+pub mod Appended
+pub mod AppendedAgree
+pub mod SecrecyExamples

@@ -1,0 +1,87 @@
+-- Demand 3 about files: two files that loading does not refuse, whose indexes agree outside a function's body, and a question about the
+-- outside that stands in both, at a place in each (document 01, "Inside a function"). Assumes nothing.
+use Prim.Native.Nat.{ℕ}
+use mathlib.Core.Path.{_≡_}
+use mathlib.Core.List.{List, _++_, List·Memᴰ}
+use mathlib.Core.Option.{Option, some}
+use lib.ListN.{getElem?}
+use Rattle.model.specs.Common.{Text}
+use Rattle.model.specs.Records.{Name, TypeExpr, BinaryOp, Expression, ExpressionInfo, Question, Index}
+use Rattle.model.specs.Links.{module-name, scope-in, type-in, definition-in, expression-in, link}
+use Rattle.format.specs.Load.{accepted, load}
+use Rattle.resolution.specs.Inside.{Body, IsBody, Inside, OutsideScope, OutsideDefinition, OutsideExpression, OutsideType, NothingLinksInside, AboutOutside}
+use Rattle.resolution.specs.Resolve.{Reply, answer}
+
+-- ------------------------------------------------------------------ agreement
+
+-- each record outside in the first index stands in the second, outside too, under the same kind, module and number with the same fields
+pub record StandsIn (first : Index) (first-body : Body) (second : Index) (second-body : Body) (question : Question) : Type 0 where
+  pub modules : (m : ℕ) (name : Name) → module-name first m ≡ some name → module-name second m ≡ some name
+  pub scopes : (m s : ℕ) (outside : OutsideScope first first-body m s)
+      → (scope-in second m s ≡ some (outside .scope)) × (Inside second second-body m s → ⊥)
+  pub types : (m t : ℕ) (type : TypeExpr) → OutsideType first first-body question m t → type-in first m t ≡ some type
+      → (type-in second m t ≡ some type) × OutsideType second second-body question m t
+  pub definitions : (m d : ℕ) (outside : OutsideDefinition first first-body m d)
+      → (definition-in second m d ≡ some (outside .definition)) × (Inside second second-body m (outside .definition .scope) → ⊥)
+  pub expressions : (m e : ℕ) (outside : OutsideExpression first first-body m e)
+      → (expression-in second m e ≡ some (outside .expression)) × (Inside second second-body m (outside .expression .scope) → ⊥)
+
+-- what demand 3 supposes of two indexes, a body in each, and a question: "Two agree if each record outside in either stands in the other";
+-- "two indexes that agree have one version"
+pub record Agree (first second : Index) (first-body second-body : Body) (question : Question) : Type 0 where
+  pub one-version : first .version ≡ second .version
+  pub first-is-body : IsBody first first-body
+  pub second-is-body : IsBody second second-body
+  pub first-no-links : NothingLinksInside first first-body
+  pub second-no-links : NothingLinksInside second second-body
+  pub first-stands : StandsIn first first-body second second-body question
+  pub second-stands : StandsIn second second-body first first-body question
+  pub first-about : AboutOutside first first-body question
+  pub second-about : AboutOutside second second-body question
+
+-- ------------------------------------------------------------------ files
+
+-- "An index is accepted if loading it ends in no refusal"
+pub record FilesAgree (first-file second-file : Text) (first-place second-place : ℕ) : Type 0 where
+  pub first : Index
+  pub second : Index
+  pub first-loaded : load first-file ≡ accepted first
+  pub second-loaded : load second-file ≡ accepted second
+  pub question : Question
+  pub first-asked : getElem? (first .questions) first-place ≡ some question
+  pub second-asked : getElem? (second .questions) second-place ≡ some question
+  pub first-body : Body
+  pub second-body : Body
+  pub agree : Agree first second first-body second-body question
+
+-- both questions are answered, by the same line
+pub record SameLine (first-file second-file : Text) (first-place second-place : ℕ) : Type 0 where
+  pub line : Text
+  pub first-answer : answer first-file first-place ≡ Reply.line line
+  pub second-answer : answer second-file second-place ≡ Reply.line line
+
+-- "It may have different places among the Q of the two; compared is its answer line, every byte"
+abbrev pub BodiesAreHidden : Type 0
+BodiesAreHidden =
+    (first-file second-file : Text) (first-place second-place : ℕ)
+    → FilesAgree first-file second-file first-place second-place → SameLine first-file second-file first-place second-place
+
+-- ------------------------------------------------------------------ as document 01 words it
+
+-- "Demand 3 also bars an outside `lit` as operand of a `bin` inside". (The theorem holds without it)
+abbrev pub NoOutsideLiteralInBinary : Index → Body → Type 0
+NoOutsideLiteralInBinary index body =
+    (m e operand : ℕ) (inside : ExpressionInfo) → expression-in index m e ≡ some inside → Inside index body m (inside .scope)
+    → (op : BinaryOp) (left right : Option ℕ) → inside .node ≡ Expression.Binary op left right → List·Memᴰ operand (link left ++ link right)
+    → (outside : OutsideExpression index body m operand) (suffix : Option Name) → outside .expression .node ≡ Expression.Literal suffix → ⊥
+
+pub record FilesAgreeAsWorded (first-file second-file : Text) (first-place second-place : ℕ) : Type 0 where
+  pub files : FilesAgree first-file second-file first-place second-place
+  pub first-no-literal : NoOutsideLiteralInBinary (files .first) (files .first-body)
+  pub second-no-literal : NoOutsideLiteralInBinary (files .second) (files .second-body)
+
+-- demand 3
+abbrev pub DemandThree : Type 0
+DemandThree =
+    (first-file second-file : Text) (first-place second-place : ℕ)
+    → FilesAgreeAsWorded first-file second-file first-place second-place → SameLine first-file second-file first-place second-place
