@@ -8,7 +8,7 @@ use mathlib.Core.List.{[], _∷_}
 use mathlib.Core.Option.{Option, none, some}
 use lib.Dec.{eqb}
 use lib.ListN.{length, length-drop}
-use Rattle.model.specs.Common.{Text, let-some}
+use Rattle.model.specs.Common.{is-empty, Text, let-some}
 use Rattle.format.specs.declared.Kind.{Kind}
 use Rattle.format.specs.declared.Listed.{Listed}
 use Rattle.format.specs.declared.Shape.{Shape}
@@ -18,7 +18,7 @@ use Rattle.format.specs.Fields.{field-of, behind, behind-tab, value-of, 
 use Rattle.format.specs.Tails.{Three, three, first-kind, second-kind, Items, no-items, with-item, at-end, items-within, is-empty-list, items, Tail, tail}
 use Rattle.format.specs.Shapes.{maybe-num, bare, module-shape, scope-as, type-shape, type-as, definition-shape, definition-as, origin-shape, origin-as, node-shape, node-as, question-shape, question-as}
 use Rattle.format.specs.Lines.{Line, WordRead, word-here, module-line, scope-line, type-line, definition-line, expression-line, question-line, line-from}
-use Rattle.format.specs.FirstPass.{Seen, Step, go, refuse, First, read, wrong, is-empty, step-on, lines-within}
+use Rattle.format.specs.FirstPass.{Seen, Step, go, refuse, First, read, wrong, step-on, lines-within}
 use Rattle.format.proofs.Reading.{Every, nothing, this, every-some, every-then, every-after}
 use Rattle.format.proofs.Passing.{step-go}
 
@@ -65,8 +65,8 @@ slot-shorter k t = of (is-nothing k)
 first-shorter : (l : Listed) (t : Text) → Every (λ (r : Read). suc (length (r .rest)) ≤ length t) (slot (first-kind l) t)
 unfolding slot
 first-shorter Listed.Empty t = field-shorter Kind.Unused t
-first-shorter Listed.Links t = field-shorter Kind.Link t
-first-shorter Listed.MaybeLinks t = field-shorter Kind.MaybeLink t
+first-shorter Listed.Numbers t = field-shorter Kind.Number t
+first-shorter Listed.MaybeNumbers t = field-shorter Kind.MaybeNumber t
 first-shorter Listed.Fields t = field-shorter Kind.Name t
 
 then-same : {A B : Type 0} {P : A → Type 0} {o : Option A} {k k′ : A → Option B} → Every P o → ((x : A) → P x → k x ≡ k′ x)
@@ -147,7 +147,7 @@ line-shorter : (w : LineWord) (t : Text) → Every (λ (l : Line). length (l .re
 unfolding line-from module-line scope-line type-line definition-line expression-line question-line
 line-shorter LineWord.M t = every-then (tail-shorter module-shape t) λ x p. this _ p
 line-shorter LineWord.S t =
-    every-then (slot-shorter Kind.MaybeLink t) λ p a.
+    every-then (slot-shorter Kind.MaybeNumber t) λ p a.
     every-then (word-shorter (p .rest)) λ w b.
     every-then (tail-shorter bare (w .rest)) λ x c.
     every-after (scope-as (maybe-num (p .value)) (scope-word-of (w .word))) λ scope. this _ (omega arith)
@@ -156,14 +156,14 @@ line-shorter LineWord.T t =
     every-then (tail-shorter (type-shape (type-word-of (w .word))) (w .rest)) λ x b.
     every-after (type-as (type-word-of (w .word)) x) λ type. this _ (omega arith)
 line-shorter LineWord.D t =
-    every-then (three-shorter Kind.Link Kind.Name Kind.Position t) λ h a.
+    every-then (three-shorter Kind.Number Kind.Name Kind.Position t) λ h a.
     every-then (three-shorter Kind.Position Kind.Position Kind.Position (h .rest)) λ k b.
     every-then (word-shorter (k .rest)) λ w c.
     every-then (tail-shorter (definition-shape (definition-word-of (w .word))) (w .rest)) λ x d.
     every-after (definition-as (definition-word-of (w .word)) x) λ kind. this _ (omega arith)
 line-shorter LineWord.E t =
-    every-then (three-shorter Kind.Link Kind.Position Kind.Position t) λ h a.
-    every-then (three-shorter Kind.MaybeLink Kind.MaybeLink Kind.Nothing (h .rest)) λ k b.
+    every-then (three-shorter Kind.Number Kind.Position Kind.Position t) λ h a.
+    every-then (three-shorter Kind.MaybeNumber Kind.MaybeNumber Kind.Nothing (h .rest)) λ k b.
     every-then (word-shorter (k .rest)) λ v c.
     every-then (three-shorter (origin-shape (origin-word-of (v .word)) .a) (origin-shape (origin-word-of (v .word)) .b) Kind.Nothing (v .rest)) λ o d.
     every-then (word-shorter (o .rest)) λ w e.

@@ -28,14 +28,14 @@ use Rattle.model.specs.Limits.{
   module-items,
   item-count,
 }
-use Rattle.model.specs.WellFormed.{Limits, QuestionNumbers}
+use Rattle.model.specs.WellFormed.{WithinLimits, QuestionNumbers}
 use Rattle.model.proofs.Tests.{ltb-lt, eq-numbers-self, none≢some, some-injective, some-of}
 use Rattle.model.proofs.Search.{first-none-fails, some-passes}
 use Rattle.model.proofs.Places.{getElem-snoc}
 use Rattle.format.specs.declared.LineWord.{LineWord}
-use Rattle.format.specs.Lines.{Row, a-module, row-items}
+use Rattle.format.specs.Lines.{Entry, a-module, entry-items}
 use Rattle.format.specs.FirstPass.{empty-module, with-scope, with-type, with-definition, with-expression, on-last, add, has-line-room, is-again}
-use Rattle.format.proofs.Reading.{RootKind, RowOf, module-row, scope-row, type-row, definition-row, expression-row, question-row}
+use Rattle.format.proofs.Reading.{RootKind, EntryOf, module-entry, scope-entry, type-entry, definition-entry, expression-entry, question-entry}
 
 -- ------------------------------------------------------------------ every element
 
@@ -164,10 +164,10 @@ expressions-of m = length (m .expressions)
 one-more : {A : Type 0} (xs : List A) (x : A) → length (xs ++ (x ∷ [])) ≤ length xs + 1
 one-more xs x = omega (arith, length-append xs (x ∷ []))
 
-grown-limits : (w : LineWord) (row : Row) (index : Index) → RowOf w row → has-line-room w index ≡ true → item-count index + row-items row ≤ max-items → Limits index
-    → Limits (add row index)
-unfolding add has-line-room row-items scope-count type-expr-count definition-count expression-count item-count total
-grown-limits w row index (module-row name) room items l =
+grown-limits : (w : LineWord) (entry : Entry) (index : Index) → EntryOf w entry → has-line-room w index ≡ true → item-count index + entry-items entry ≤ max-items → WithinLimits index
+    → WithinLimits (add entry index)
+unfolding add has-line-room entry-items scope-count type-expr-count definition-count expression-count item-count total
+grown-limits w entry index (module-entry name) room items l =
     let ms = index .modules in
     record {
       modules = omega (arith, length-append ms (empty-module name ∷ []), ltb-lt (length ms) max-modules room);
@@ -178,7 +178,7 @@ grown-limits w row index (module-row name) room items l =
       questions = l .questions;
       items = empty-kept module-items name refl ms max-items (l .items);
     }
-grown-limits w row index (scope-row r kind) room items l =
+grown-limits w entry index (scope-entry r kind) room items l =
     let ms = index .modules in
     let g = with-scope r in
     record {
@@ -190,7 +190,7 @@ grown-limits w row index (scope-row r kind) room items l =
       questions = l .questions;
       items = kept module-items g (λ m. refl) ms max-items (l .items);
     }
-grown-limits w row index (type-row r) room items l =
+grown-limits w entry index (type-entry r) room items l =
     let ms = index .modules in
     let g = with-type r in
     record {
@@ -202,7 +202,7 @@ grown-limits w row index (type-row r) room items l =
       questions = l .questions;
       items = omega (arith, raised module-items g (type-expr-items r) (λ m. omega (arith, total-append type-expr-items (m .types) r)) ms, items);
     }
-grown-limits w row index (definition-row r) room items l =
+grown-limits w entry index (definition-entry r) room items l =
     let ms = index .modules in
     let g = with-definition r in
     record {
@@ -214,7 +214,7 @@ grown-limits w row index (definition-row r) room items l =
       questions = l .questions;
       items = omega (arith, raised module-items g (definition-items r) (λ m. omega (arith, total-append definition-items (m .definitions) r)) ms, items);
     }
-grown-limits w row index (expression-row r) room items l =
+grown-limits w entry index (expression-entry r) room items l =
     let ms = index .modules in
     let g = with-expression r in
     record {
@@ -226,7 +226,7 @@ grown-limits w row index (expression-row r) room items l =
       questions = l .questions;
       items = omega (arith, raised module-items g (expression-items r) (λ m. omega (arith, total-append expression-items (m .expressions) r)) ms, items);
     }
-grown-limits w row index (question-row q numbers) room items l =
+grown-limits w entry index (question-entry q numbers) room items l =
     record {
       modules = l .modules;
       scopes = l .scopes;
@@ -244,7 +244,7 @@ pub record Growing (version : ℕ) (index : Index) : Type 0 where
   pub names : NamesDiffer (index .modules)
   pub roots : All (λ m. All RootKind (m .scopes)) (index .modules)
   pub numbers : All QuestionNumbers (index .questions)
-  pub limits : Limits index
+  pub limits : WithinLimits index
 
 -- the parts that a line of a module keeps
 in-module : (version : ℕ) (index : Index) (f : Module → Module) → ((m : Module) → f m .name ≡ m .name)
@@ -253,13 +253,13 @@ in-module : (version : ℕ) (index : Index) (f : Module → Module) → ((m : Mo
 in-module version index f same-name keep g =
     (differ-on-last f same-name (index .modules) (g .names), all-on-last (λ m. All RootKind (m .scopes)) f keep (index .modules) (g .roots))
 
-pub grown : (version : ℕ) (w : LineWord) (row : Row) (index : Index) → RowOf w row → has-line-room w index ≡ true → item-count index + row-items row ≤ max-items
-    → is-again row index ≡ false → Growing version index → Growing version (add row index)
+pub grown : (version : ℕ) (w : LineWord) (entry : Entry) (index : Index) → EntryOf w entry → has-line-room w index ≡ true → item-count index + entry-items entry ≤ max-items
+    → is-again entry index ≡ false → Growing version index → Growing version (add entry index)
 unfolding add
-grown version w row index row-of room items new g = by-kind row-of new (grown-limits w row index row-of room items (g .limits))
+grown version w entry index entry-of room items new g = by-kind entry-of new (grown-limits w entry index entry-of room items (g .limits))
   where
-    by-kind : {v : LineWord} {r : Row} → RowOf v r → is-again r index ≡ false → Limits (add r index) → Growing version (add r index)
-    by-kind (module-row name) fresh limits =
+    by-kind : {v : LineWord} {r : Entry} → EntryOf v r → is-again r index ≡ false → WithinLimits (add r index) → Growing version (add r index)
+    by-kind (module-entry name) fresh limits =
         record {
           one-version = g .one-version;
           names = differ-append name (index .modules) (not-again name index fresh) (g .names);
@@ -267,19 +267,19 @@ grown version w row index row-of room items new g = by-kind row-of new (grown-li
           numbers = g .numbers;
           limits = limits;
         }
-    by-kind (scope-row r kind) fresh limits =
+    by-kind (scope-entry r kind) fresh limits =
         let (names, roots) = in-module version index (with-scope r) (λ m. refl) (λ m h. all-append RootKind (m .scopes) r h kind) g in
         record { one-version = g .one-version; names = names; roots = roots; numbers = g .numbers; limits = limits }
-    by-kind (type-row r) fresh limits =
+    by-kind (type-entry r) fresh limits =
         let (names, roots) = in-module version index (with-type r) (λ m. refl) (λ m h. h) g in
         record { one-version = g .one-version; names = names; roots = roots; numbers = g .numbers; limits = limits }
-    by-kind (definition-row r) fresh limits =
+    by-kind (definition-entry r) fresh limits =
         let (names, roots) = in-module version index (with-definition r) (λ m. refl) (λ m h. h) g in
         record { one-version = g .one-version; names = names; roots = roots; numbers = g .numbers; limits = limits }
-    by-kind (expression-row r) fresh limits =
+    by-kind (expression-entry r) fresh limits =
         let (names, roots) = in-module version index (with-expression r) (λ m. refl) (λ m h. h) g in
         record { one-version = g .one-version; names = names; roots = roots; numbers = g .numbers; limits = limits }
-    by-kind (question-row q numbers) fresh limits =
+    by-kind (question-entry q numbers) fresh limits =
         record {
           one-version = g .one-version;
           names = g .names;

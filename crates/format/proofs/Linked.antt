@@ -7,16 +7,14 @@ use mathlib.Core.List.{List, [], _∷_, _++_, map, List·Memᴰ, List·Memᴰ·h
 use mathlib.Core.Option.{Option, none, some}
 use lib.Dec.{ltb}
 use lib.ListN.{length, getElem?}
-use Rattle.model.specs.Common.{let-some, next, first}
+use Rattle.model.specs.Common.{is-empty, let-some, next, first}
 use Rattle.model.specs.Records.{Scope, TypeExpr, Definition, ExpressionInfo, Module, Question, Index}
 use Rattle.model.specs.Lookups.{module-at, scope-at, type-expr-at, definition-at, expression-at, parent}
 use Rattle.model.specs.Links.{scope-in, type-in, type-types, definition-types, definition-expressions, link, expression-types, expression-definitions, expression-expressions}
 use Rattle.model.specs.WellFormed.{Present, LinksLead, ParentsLower, HasRoot, QuestionLinks}
 use Rattle.model.proofs.Tests.{and-left, and-right, under, eqb-sound, ltb-lt, lt-ltb, none≢some, some-injective, some-of}
 use Rattle.model.proofs.Places.{getElem-below, getElem-there}
-use Rattle.format.specs.FirstPass.{is-empty}
 use Rattle.format.specs.LinkCheck.{all-below, parent-ok, scope-linked, type-linked, definition-linked, expression-linked, question-linked, map-from, module-lines, modules-lines, linked-lines, link-fault}
-use Rattle.format.proofs.Reading.{RootKind}
 
 -- ------------------------------------------------------------------ every test of a list passes
 
@@ -220,10 +218,9 @@ module _ (index : Index) (no-fault : link-fault index ≡ none) where
   in-its-module m f x e =
       let (the-module, here, at) = some-of (module-at index m) f x e in (the-module, here, at, at-module m the-module here)
 
-  pub links-lead : ((m s : ℕ) (scope : Scope) → scope-in index m s ≡ some scope → RootKind scope) → LinksLead index
-  links-lead root-kind =
+  pub links-lead : LinksLead index
+  links-lead =
       record {
-        root-kind = root-kind;
         parent-found =
             λ m s p scope e is-parent.
             let (the-module, here, at, linked) = in-its-module m (λ r. scope-at r s) scope e in

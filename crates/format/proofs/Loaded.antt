@@ -5,7 +5,7 @@ use mathlib.Core.Bool.{Bool, true, false}
 use mathlib.Core.Option.{Option, none, some}
 use lib.Dec.{ltb}
 use lib.ListN.{length, take, drop}
-use Rattle.model.specs.Common.{Text, let-some, if_then_else_, first}
+use Rattle.model.specs.Common.{is-empty, Text, let-some, if_then_else_, first}
 use Rattle.model.specs.Records.{Scope, Index}
 use Rattle.model.specs.Lookups.{module-at, scope-at}
 use Rattle.model.specs.Links.{scope-in}
@@ -14,7 +14,7 @@ use Rattle.model.specs.WellFormed.{WellFormed, QuestionNumbers}
 use Rattle.model.proofs.Tests.{none≢some, some-injective, some-of}
 use Rattle.format.specs.Words.{keyword, is-keyword, place-in, word-at, line-word-of}
 use Rattle.format.specs.Fields.{field-of}
-use Rattle.format.specs.FirstPass.{Seen, Step, refuse, go, step-on, First, read, wrong, is-empty, lines-within, first-pass}
+use Rattle.format.specs.FirstPass.{Seen, Step, refuse, go, step-on, First, read, wrong, lines-within, first-pass}
 use Rattle.format.specs.LinkCheck.{link-fault}
 use Rattle.format.specs.Load.{Loading, accepted, refused, first-lines, first-line-length, version-of, after-first, load-lines, load}
 use Rattle.format.proofs.Reading.{RootKind}
@@ -39,7 +39,7 @@ step-grown : (version : ℕ) (s : Seen) (t : Text) (s₁ : Seen) (t₁ : Text) �
 step-grown version s t s₁ t₁ e g =
     let added = step-go s t s₁ t₁ e in
     subst (Growing version) (added .is-added)
-    (grown version (line-word-of (field-of t)) (added .line .row) (s .index) (added .row-of) (added .room) (added .items) (added .new) g)
+    (grown version (line-word-of (field-of t)) (added .line .entry) (s .index) (added .entry-of) (added .room) (added .items) (added .new) g)
 
 lines-grown : (version n line : ℕ) (s : Seen) (t : Text) (index : Index) → lines-within n line s t ≡ read index → Growing version (s .index) → Growing version index
 unfolding lines-within
@@ -127,7 +127,8 @@ loaded-well-formed file index e =
     let no-fault = lines .no-fault in
     record {
       version = g .one-version;
-      links = links-lead index no-fault (root-kind (g .roots));
+      links = links-lead index no-fault;
+      root-kind = root-kind (g .roots);
       names-differ = g .names;
       has-root = root-there index no-fault;
       one-root = root-alone index no-fault;

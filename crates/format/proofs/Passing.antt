@@ -12,19 +12,19 @@ use Rattle.model.proofs.Tests.{eqb-sound, ltb-false, not-true, and-right}
 use Rattle.format.specs.declared.LineWord.{LineWord}
 use Rattle.format.specs.Words.{line-word-of}
 use Rattle.format.specs.Fields.{field-of, behind}
-use Rattle.format.specs.Lines.{row-items, Line, line-from}
+use Rattle.format.specs.Lines.{entry-items, Line, line-from}
 use Rattle.format.specs.FirstPass.{add, has-line-room, stage-of, in-place, is-again, Seen, Step, refuse, go, ended, judged, step-on}
-use Rattle.format.proofs.Reading.{every-some, RowOf, every-line}
+use Rattle.format.proofs.Reading.{every-some, EntryOf, every-line}
 
 -- a line of kind w was read at t, and its record added to the index; an LF and `rest` are left
 pub record Added (w : LineWord) (index : Index) (t : Text) (after : Index) (rest : Text) : Type 0 where
   pub line : Line
   pub read : line-from w t ≡ some line
-  pub row-of : RowOf w (line .row)
+  pub entry-of : EntryOf w (line .entry)
   pub room : has-line-room w index ≡ true
-  pub items : item-count index + row-items (line .row) ≤ max-items
-  pub new : is-again (line .row) index ≡ false
-  pub is-added : add (line .row) index ≡ after
+  pub items : item-count index + entry-items (line .entry) ≤ max-items
+  pub new : is-again (line .entry) index ≡ false
+  pub is-added : add (line .entry) index ≡ after
   pub ends : line .rest ≡ 10 ∷ rest
 
 -- ------------------------------------------------------------------ no refusal
@@ -68,16 +68,16 @@ judged-go w s t s₁ t₁ room e = at-line (line-from w t) refl e
     at-line : (o : Option Line) → line-from w t ≡ o → judged w s o ≡ go s₁ t₁ → Added w (s .index) t (s₁ .index) t₁
     at-line none r h = absurd (refuse≢go h)
     at-line (some l) r h =
-        let (few, h₁) = not-refused (ltb max-items (item-count (s .index) + row-items (l .row))) 3 _ s₁ t₁ h in
-        let (right, h₂) = passed (in-place w (s .stage) && not (is-again (l .row) (s .index))) 4 _ s₁ t₁ h₁ in
-        let (same, rest) = ended-go (record { stage = stage-of w; index = add (l .row) (s .index) }) (l .rest) s₁ t₁ h₂ in
+        let (few, h₁) = not-refused (ltb max-items (item-count (s .index) + entry-items (l .entry))) 3 _ s₁ t₁ h in
+        let (right, h₂) = passed (in-place w (s .stage) && not (is-again (l .entry) (s .index))) 4 _ s₁ t₁ h₁ in
+        let (same, rest) = ended-go (record { stage = stage-of w; index = add (l .entry) (s .index) }) (l .rest) s₁ t₁ h₂ in
         record {
           line = l;
           read = r;
-          row-of = every-some (every-line w t) r;
+          entry-of = every-some (every-line w t) r;
           room = room;
-          items = ltb-false max-items (item-count (s .index) + row-items (l .row)) few;
-          new = not-true (is-again (l .row) (s .index)) (and-right (in-place w (s .stage)) (not (is-again (l .row) (s .index))) right);
+          items = ltb-false max-items (item-count (s .index) + entry-items (l .entry)) few;
+          new = not-true (is-again (l .entry) (s .index)) (and-right (in-place w (s .stage)) (not (is-again (l .entry) (s .index))) right);
           is-added = ap (λ x. x .index) same;
           ends = rest;
         }

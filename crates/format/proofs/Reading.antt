@@ -7,7 +7,7 @@ use mathlib.Core.Option.{Option, none, some}
 use lib.Dec.{leb}
 use Rattle.model.specs.Common.{Text, let-some}
 use Rattle.model.specs.Records.{Name, ScopeKind, Scope, TypeExpr, Definition, ExpressionInfo, Question}
-use Rattle.model.specs.Limits.{max-link}
+use Rattle.model.specs.Limits.{max-number}
 use Rattle.model.specs.WellFormed.{QuestionNumbers}
 use Rattle.model.proofs.Tests.{leb-le, none≢some}
 use Rattle.format.specs.declared.Kind.{Kind}
@@ -19,7 +19,7 @@ use Rattle.format.specs.Words.{scope-word-of, type-word-of, definition-w
 use Rattle.format.specs.Fields.{only-if, is-dash, plain-number, number-of, numbered, or-dash, value-of, Value, absent, number, Read, reading, behind, field-of, behind-tab, slot-field, is-nothing, slot}
 use Rattle.format.specs.Tails.{three, items, Tail, tail}
 use Rattle.format.specs.Shapes.{num, maybe-num, bare, module-shape, scope-as, type-shape, type-as, definition-shape, definition-as, origin-shape, origin-as, node-shape, node-as, question-shape, question-as}
-use Rattle.format.specs.Lines.{Row, a-module, a-scope, a-type, a-definition, an-expression, a-question, Line, word-here, module-line, scope-line, type-line, definition-line, expression-line, question-line, line-from}
+use Rattle.format.specs.Lines.{Entry, a-module, a-scope, a-type, a-definition, an-expression, a-question, Line, word-here, module-line, scope-line, type-line, definition-line, expression-line, question-line, line-from}
 
 -- ------------------------------------------------------------------ what is known of a result, if there is one
 
@@ -47,19 +47,19 @@ every-after (some x) f = f x
 -- ------------------------------------------------------------------ numbers below 65,536
 
 abbrev Small : Value → Type 0
-Small v = num v ≤ max-link
+Small v = num v ≤ max-number
 
-number-small : (u : Text) → Every Small (numbered (number-of max-link u))
+number-small : (u : Text) → Every Small (numbered (number-of max-number u))
 unfolding number-of
 number-small u = of (plain-number u)
   where
-    bounded : (n : ℕ) (b : Bool) → leb n max-link ≡ b → Every Small (numbered (only-if b n))
-    bounded n true e = this (number n) (leb-le n max-link e)
+    bounded : (n : ℕ) (b : Bool) → leb n max-number ≡ b → Every Small (numbered (only-if b n))
+    bounded n true e = this (number n) (leb-le n max-number e)
     bounded n false e = nothing
 
-    of : (o : Option ℕ) → Every Small (numbered (let-some o none λ n. only-if (leb n max-link) n))
+    of : (o : Option ℕ) → Every Small (numbered (let-some o none λ n. only-if (leb n max-number) n))
     of none = nothing
-    of (some n) = bounded n (leb n max-link) refl
+    of (some n) = bounded n (leb n max-number) refl
 
 abbrev SmallKind : Kind → Type 0
 SmallKind k = (u : Text) → Every Small (value-of k u)
@@ -68,15 +68,15 @@ nothing-small : SmallKind Kind.Nothing
 unfolding value-of
 nothing-small u = nothing
 
-link-small : SmallKind Kind.Link
+link-small : SmallKind Kind.Number
 unfolding value-of
 link-small u = number-small u
 
-maybe-link-small : SmallKind Kind.MaybeLink
+maybe-link-small : SmallKind Kind.MaybeNumber
 unfolding value-of or-dash
 maybe-link-small u = of (is-dash u)
   where
-    of : (b : Bool) → Every Small (elim b [ true ↦ some absent | false ↦ numbered (number-of max-link u) ])
+    of : (b : Bool) → Every Small (elim b [ true ↦ some absent | false ↦ numbered (number-of max-number u) ])
     of true = this absent (omega arith)
     of false = number-small u
 
@@ -145,43 +145,43 @@ scope-kind (some p) ScopeWord.Other = nothing
 -- ------------------------------------------------------------------ a line of a kind
 
 -- a record of the line's kind, with what reading it makes sure of
-pub data RowOf : LineWord → Row → Type 0 where
-  module-row : (name : Name) → RowOf LineWord.M (a-module name)
-  scope-row : (scope : Scope) → RootKind scope → RowOf LineWord.S (a-scope scope)
-  type-row : (type : TypeExpr) → RowOf LineWord.T (a-type type)
-  definition-row : (definition : Definition) → RowOf LineWord.D (a-definition definition)
-  expression-row : (expression : ExpressionInfo) → RowOf LineWord.E (an-expression expression)
-  question-row : (question : Question) → QuestionNumbers question → RowOf LineWord.Q (a-question question)
+pub data EntryOf : LineWord → Entry → Type 0 where
+  module-entry : (name : Name) → EntryOf LineWord.M (a-module name)
+  scope-entry : (scope : Scope) → RootKind scope → EntryOf LineWord.S (a-scope scope)
+  type-entry : (type : TypeExpr) → EntryOf LineWord.T (a-type type)
+  definition-entry : (definition : Definition) → EntryOf LineWord.D (a-definition definition)
+  expression-entry : (expression : ExpressionInfo) → EntryOf LineWord.E (an-expression expression)
+  question-entry : (question : Question) → QuestionNumbers question → EntryOf LineWord.Q (a-question question)
 
-pub every-line : (w : LineWord) (t : Text) → Every (λ (l : Line). RowOf w (l .row)) (line-from w t)
+pub every-line : (w : LineWord) (t : Text) → Every (λ (l : Line). EntryOf w (l .entry)) (line-from w t)
 unfolding line-from module-line scope-line type-line definition-line expression-line question-line
-every-line LineWord.M t = every-after (tail module-shape t) λ x. this _ (module-row _)
+every-line LineWord.M t = every-after (tail module-shape t) λ x. this _ (module-entry _)
 every-line LineWord.S t =
-    every-after (slot Kind.MaybeLink t) λ p.
+    every-after (slot Kind.MaybeNumber t) λ p.
     every-after (word-here (p .rest)) λ w.
     every-after (tail bare (w .rest)) λ x.
-    every-then (scope-kind (maybe-num (p .value)) (scope-word-of (w .word))) λ scope kind. this _ (scope-row scope kind)
+    every-then (scope-kind (maybe-num (p .value)) (scope-word-of (w .word))) λ scope kind. this _ (scope-entry scope kind)
 every-line LineWord.T t =
     every-after (word-here t) λ w.
     every-after (tail (type-shape (type-word-of (w .word))) (w .rest)) λ x.
-    every-after (type-as (type-word-of (w .word)) x) λ type. this _ (type-row type)
+    every-after (type-as (type-word-of (w .word)) x) λ type. this _ (type-entry type)
 every-line LineWord.D t =
-    every-after (three Kind.Link Kind.Name Kind.Position t) λ h.
+    every-after (three Kind.Number Kind.Name Kind.Position t) λ h.
     every-after (three Kind.Position Kind.Position Kind.Position (h .rest)) λ k.
     every-after (word-here (k .rest)) λ w.
     every-after (tail (definition-shape (definition-word-of (w .word))) (w .rest)) λ x.
-    every-after (definition-as (definition-word-of (w .word)) x) λ kind. this _ (definition-row _)
+    every-after (definition-as (definition-word-of (w .word)) x) λ kind. this _ (definition-entry _)
 every-line LineWord.E t =
-    every-after (three Kind.Link Kind.Position Kind.Position t) λ h.
-    every-after (three Kind.MaybeLink Kind.MaybeLink Kind.Nothing (h .rest)) λ k.
+    every-after (three Kind.Number Kind.Position Kind.Position t) λ h.
+    every-after (three Kind.MaybeNumber Kind.MaybeNumber Kind.Nothing (h .rest)) λ k.
     every-after (word-here (k .rest)) λ v.
     every-after (three (origin-shape (origin-word-of (v .word)) .a) (origin-shape (origin-word-of (v .word)) .b) Kind.Nothing (v .rest)) λ o.
     every-after (word-here (o .rest)) λ w.
     every-after (tail (node-shape (node-word-of (w .word))) (w .rest)) λ x.
     every-after (origin-as (origin-word-of (v .word)) o) λ origin.
-    every-after (node-as (node-word-of (w .word)) x) λ node. this _ (expression-row _)
+    every-after (node-as (node-word-of (w .word)) x) λ node. this _ (expression-entry _)
 every-line LineWord.Q t =
     every-after (word-here t) λ w.
     every-then (question-tail (question-word-of (w .word)) (w .rest)) λ x small.
-    every-then (question-small (question-word-of (w .word)) x small) λ question numbers. this _ (question-row question numbers)
+    every-then (question-small (question-word-of (w .word)) x small) λ question numbers. this _ (question-entry question numbers)
 every-line LineWord.Other t = nothing

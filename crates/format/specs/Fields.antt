@@ -7,7 +7,7 @@ use mathlib.Core.Option.{Option, none, some}
 use lib.ListN.{length, drop}
 use lib.Dec.{eqb, leb}
 use Rattle.model.specs.Common.{Text, bytes, let-some, eq-numbers}
-use Rattle.model.specs.Limits.{max-link, max-position, max-size}
+use Rattle.model.specs.Limits.{max-number, max-position, max-size}
 use Rattle.format.specs.declared.Kind.{Kind}
 use Rattle.format.specs.Words.{unary-op-words, binary-op-words, place-in}
 
@@ -87,8 +87,8 @@ or-dash t v = elim (is-dash t) [ true ↦ some absent | false ↦ v ]
 -- the value of a field of a kind, or none where its form is wrong
 unfoldable pub value-of : Kind → Text → Option Value
 value-of Kind.Nothing t = none
-value-of Kind.Link t = numbered (number-of max-link t)
-value-of Kind.MaybeLink t = or-dash t (numbered (number-of max-link t))
+value-of Kind.Number t = numbered (number-of max-number t)
+value-of Kind.MaybeNumber t = or-dash t (numbered (number-of max-number t))
 value-of Kind.Position t = numbered (number-of max-position t)
 value-of Kind.Size t = numbered (number-of max-size t)
 value-of Kind.Name t = name-value t
@@ -120,8 +120,8 @@ slot-field k t = let-some (behind-tab t) none λ u. reading (behind u) (value-of
 -- `Nothing` reads no field
 abbrev pub is-nothing : Kind → Bool
 is-nothing Kind.Nothing = true
-is-nothing Kind.Link = false
-is-nothing Kind.MaybeLink = false
+is-nothing Kind.Number = false
+is-nothing Kind.MaybeNumber = false
 is-nothing Kind.Position = false
 is-nothing Kind.Size = false
 is-nothing Kind.Name = false

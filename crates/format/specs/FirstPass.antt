@@ -6,7 +6,7 @@ use mathlib.Core.Bool.{Bool, true, false, _&&_, not}
 use mathlib.Core.Option.{Option, none, some}
 use lib.ListN.{length}
 use lib.Dec.{eqb, leb, ltb}
-use Rattle.model.specs.Common.{Text, is-none, if_then_else_}
+use Rattle.model.specs.Common.{Text, is-empty, is-none, if_then_else_}
 use Rattle.model.specs.Records.{Name, Scope, TypeExpr, Definition, ExpressionInfo, Module, Index}
 use Rattle.model.specs.Lookups.{module-by-name}
 use Rattle.model.specs.Limits.{
@@ -23,10 +23,11 @@ use Rattle.model.specs.Limits.{
   expression-count,
   item-count,
 }
+use Rattle.model.specs.Refusals.{refusal-limit, refusal-form}
 use Rattle.format.specs.declared.LineWord.{LineWord}
 use Rattle.format.specs.Words.{line-word-of}
 use Rattle.format.specs.Fields.{field-of, behind}
-use Rattle.format.specs.Lines.{Row, a-module, a-scope, a-type, a-definition, an-expression, a-question, row-items, Line, line-from}
+use Rattle.format.specs.Lines.{Entry, a-module, a-scope, a-type, a-definition, an-expression, a-question, entry-items, Line, line-from}
 
 -- ------------------------------------------------------------------ the index so far
 
@@ -59,7 +60,7 @@ abbrev in-last : (Module → Module) → Index → Index
 in-last f index = record { version = index .version; modules = on-last f (index .modules); questions = index .questions }
 
 -- the index with one more line's record: it belongs to the last module
-unfoldable pub add : Row → Index → Index
+unfoldable pub add : Entry → Index → Index
 add (a-module name) index =
     record { version = index .version; modules = index .modules ++ (empty-module name ∷ []); questions = index .questions }
 add (a-scope r) index = in-last (with-scope r) index
@@ -81,7 +82,7 @@ has-line-room LineWord.E index = ltb (expression-count index) max-expressions
 has-line-room LineWord.Q index = ltb (length (index .questions)) max-questions
 has-line-room LineWord.Other index = true
 
--- "a module's lines stand in the order M, S, T, D, E", Q last: the stage of a line, and 0 before the first
+-- a module's "lines stand in the order M, S, T, D, E"; Q last: the stage of a line, and 0 before the first
 abbrev pub stage-of : LineWord → ℕ
 stage-of LineWord.M = 1
 stage-of LineWord.S = 2
@@ -102,7 +103,7 @@ in-place LineWord.Q stage = true
 in-place LineWord.Other stage = false
 
 -- "a module name again"
-unfoldable pub is-again : Row → Index → Bool
+unfoldable pub is-again : Entry → Index → Bool
 is-again (a-module name) index = not (is-none (module-by-name index name))
 is-again (a-scope r) index = false
 is-again (a-type r) index = false
@@ -124,23 +125,23 @@ pub data Step : Type 0 where
 
 -- behind the LF that must stand here
 abbrev pub ended : Seen → Text → Step
-ended s [] = refuse 4
-ended s (b ∷ t) = if eqb b 10 then go s t else refuse 4
+ended s [] = refuse refusal-form
+ended s (b ∷ t) = if eqb b 10 then go s t else refuse refusal-form
 
 -- wrong form 4; too many items 3; wrong place or a module name again 4; no LF 4, in this order:
 -- "3 first; .. items only in lines of right form"
 abbrev pub judged : LineWord → Seen → Option Line → Step
-judged w s none = refuse 4
+judged w s none = refuse refusal-form
 judged w s (some l) =
-    if ltb max-items (item-count (s .index) + row-items (l .row))
-    then refuse 3
-    else if in-place w (s .stage) && not (is-again (l .row) (s .index))
-    then ended (record { stage = stage-of w; index = add (l .row) (s .index) }) (l .rest)
-    else refuse 4
+    if ltb max-items (item-count (s .index) + entry-items (l .entry))
+    then refuse refusal-limit
+    else if in-place w (s .stage) && not (is-again (l .entry) (s .index))
+    then ended (record { stage = stage-of w; index = add (l .entry) (s .index) }) (l .rest)
+    else refuse refusal-form
 
 -- "a line counts by its first field": too many lines of the kind 3, before all else
 abbrev pub counted : LineWord → Seen → Text → Step
-counted w s t = elim (has-line-room w (s .index)) [ true ↦ judged w s (line-from w t) | false ↦ refuse 3 ]
+counted w s t = elim (has-line-room w (s .index)) [ true ↦ judged w s (line-from w t) | false ↦ refuse refusal-limit ]
 
 -- the line that begins here
 unfoldable pub step-on : Seen → Text → Step
@@ -153,13 +154,9 @@ pub data First : Type 0 where
   read : Index → First
   wrong : ℕ → ℕ → First
 
-abbrev pub is-empty : {A : Type 0} → List A → Bool
-is-empty [] = true
-is-empty (x ∷ xs) = false
-
 -- n bounds the number of lines, of which the first has the number `line`
 unfoldable pub lines-within : ℕ → ℕ → Seen → Text → First
-lines-within zero line s t = wrong 4 line
+lines-within zero line s t = wrong refusal-form line
 lines-within (suc n) line s t =
     elim (is-empty t) [
       | true ↦ read (s .index)

@@ -14,30 +14,30 @@ use Rattle.format.specs.Shapes.{num, maybe-num, txt, bare, module-shape,
 -- ------------------------------------------------------------------ a line
 
 -- the record of a line, by its kind
-pub data Row : Type 0 where
-  a-module : Name → Row
-  a-scope : Scope → Row
-  a-type : TypeExpr → Row
-  a-definition : Definition → Row
-  an-expression : ExpressionInfo → Row
-  a-question : Question → Row
+pub data Entry : Type 0 where
+  a-module : Name → Entry
+  a-scope : Scope → Entry
+  a-type : TypeExpr → Entry
+  a-definition : Definition → Entry
+  an-expression : ExpressionInfo → Entry
+  a-question : Question → Entry
 
 -- the items of its `..` list
-unfoldable pub row-items : Row → ℕ
-row-items (a-module name) = 0
-row-items (a-scope scope) = 0
-row-items (a-type type) = type-expr-items type
-row-items (a-definition definition) = definition-items definition
-row-items (an-expression expression) = expression-items expression
-row-items (a-question question) = 0
+unfoldable pub entry-items : Entry → ℕ
+entry-items (a-module name) = 0
+entry-items (a-scope scope) = 0
+entry-items (a-type type) = type-expr-items type
+entry-items (a-definition definition) = definition-items definition
+entry-items (an-expression expression) = expression-items expression
+entry-items (a-question question) = 0
 
 -- a line that was read: its record, and what is left behind it
 pub record Line : Type 0 where
-  pub row : Row
+  pub entry : Entry
   pub rest : Text
 
-abbrev pub line : Row → Text → Line
-line row rest = record { row = row; rest = rest }
+abbrev pub line : Entry → Text → Line
+line entry rest = record { entry = entry; rest = rest }
 
 -- the word behind the tab that stands here, and what is left behind it
 pub record WordRead : Type 0 where
@@ -54,7 +54,7 @@ module-line t = let-some (tail module-shape t) none λ x. some (line (a-module (
 
 unfoldable pub scope-line : Text → Option Line
 scope-line t =
-    let-some (slot Kind.MaybeLink t) none λ p.
+    let-some (slot Kind.MaybeNumber t) none λ p.
     let-some (word-here (p .rest)) none λ w.
     let-some (tail bare (w .rest)) none λ x.
     let-some (scope-as (maybe-num (p .value)) (scope-word-of (w .word))) none λ scope. some (line (a-scope scope) (x .rest))
@@ -65,7 +65,7 @@ type-line t =
     let-some (tail (type-shape (type-word-of (w .word))) (w .rest)) none λ x.
     let-some (type-as (type-word-of (w .word)) x) none λ type. some (line (a-type type) (x .rest))
 
--- h: scope, name and start of name_span; k: the other ends of the spans
+-- h: scope, name and start of name_span; k: end of name_span, start and end of full_span
 abbrev pub definition-from : Three → Three → DefinitionKind → Definition
 definition-from h k kind =
     record {
@@ -80,7 +80,7 @@ definition-from h k kind =
 
 unfoldable pub definition-line : Text → Option Line
 definition-line t =
-    let-some (three Kind.Link Kind.Name Kind.Position t) none λ h.
+    let-some (three Kind.Number Kind.Name Kind.Position t) none λ h.
     let-some (three Kind.Position Kind.Position Kind.Position (h .rest)) none λ k.
     let-some (word-here (k .rest)) none λ w.
     let-some (tail (definition-shape (definition-word-of (w .word))) (w .rest)) none λ x.
@@ -102,8 +102,8 @@ expression-from h k origin node =
 
 unfoldable pub expression-line : Text → Option Line
 expression-line t =
-    let-some (three Kind.Link Kind.Position Kind.Position t) none λ h.
-    let-some (three Kind.MaybeLink Kind.MaybeLink Kind.Nothing (h .rest)) none λ k.
+    let-some (three Kind.Number Kind.Position Kind.Position t) none λ h.
+    let-some (three Kind.MaybeNumber Kind.MaybeNumber Kind.Nothing (h .rest)) none λ k.
     let-some (word-here (k .rest)) none λ v.
     let-some (three (origin-shape (origin-word-of (v .word)) .a) (origin-shape (origin-word-of (v .word)) .b) Kind.Nothing (v .rest)) none λ o.
     let-some (word-here (o .rest)) none λ w.

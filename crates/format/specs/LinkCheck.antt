@@ -5,11 +5,10 @@ use mathlib.Core.Bool.{Bool, true, false, _&&_, _||_, not}
 use mathlib.Core.Option.{Option, none, some}
 use lib.ListN.{length}
 use lib.Dec.{eqb, ltb}
-use Rattle.model.specs.Common.{let-some, first}
+use Rattle.model.specs.Common.{let-some, is-empty, first}
 use Rattle.model.specs.Records.{Scope, TypeExpr, Definition, ExpressionInfo, Module, Question, Index}
 use Rattle.model.specs.Lookups.{module-at}
 use Rattle.model.specs.Links.{type-types, definition-types, definition-expressions, link, expression-types, expression-definitions, expression-expressions}
-use Rattle.format.specs.FirstPass.{is-empty}
 
 -- ------------------------------------------------------------------ the links of one record
 
@@ -75,6 +74,6 @@ modules-lines (m ∷ ms) = module-lines m ++ modules-lines ms
 unfoldable pub linked-lines : Index → List Bool
 linked-lines index = modules-lines (index .modules) ++ map (question-linked index) (index .questions)
 
--- the line of the first link that leads nowhere
+-- the first line with 5: a link to no record, a T that isn't earlier, a wrong parent, a module without scope
 unfoldable pub link-fault : Index → Option ℕ
 link-fault index = let-some (first not (linked-lines index)) none λ n. some (2 + n)

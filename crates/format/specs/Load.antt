@@ -8,6 +8,7 @@ use lib.Dec.{ltb}
 use Rattle.model.specs.Common.{Text, let-some}
 use Rattle.model.specs.Records.{Index}
 use Rattle.model.specs.Limits.{max-bytes}
+use Rattle.model.specs.Refusals.{refusal-first-line, refusal-limit, refusal-link}
 use Rattle.format.specs.Words.{Keyword, keyword, place-in, word-at}
 use Rattle.format.specs.FirstPass.{First, read, wrong, first-pass}
 use Rattle.format.specs.LinkCheck.{link-fault}
@@ -32,7 +33,7 @@ version-of file =
 -- 3 or 4 at the first line that has one, then 5 at the first line that has it
 abbrev pub after-first : First → Loading
 after-first (wrong number line) = refused number line
-after-first (read index) = let-some (link-fault index) (accepted index) λ line. refused 5 line
+after-first (read index) = let-some (link-fault index) (accepted index) λ line. refused refusal-link line
 
 -- the lines behind the first one
 unfoldable pub load-lines : ℕ → Text → Loading
@@ -42,6 +43,6 @@ load-lines version t = after-first (first-pass version t)
 unfoldable pub load : Text → Loading
 load file =
     elim (ltb max-bytes (length file)) [
-      | true ↦ refused 3 0
-      | false ↦ elim (version-of file) [ none ↦ refused 2 1 | some version ↦ load-lines version (drop first-line-length file) ]
+      | true ↦ refused refusal-limit 0
+      | false ↦ elim (version-of file) [ none ↦ refused refusal-first-line 1 | some version ↦ load-lines version (drop first-line-length file) ]
     ]

@@ -62,7 +62,7 @@ bare = shape Kind.Nothing Kind.Nothing Kind.Nothing Listed.Empty
 abbrev pub module-shape : Shape
 module-shape = shape Kind.Name Kind.Nothing Kind.Nothing Listed.Empty
 
--- S: "`module` (with `-` and only then), `function`, `block` or `loop`"
+-- S: "parent or `-`, then `module` (with `-` and only then, else 4), `function`, `block` or `loop`"
 abbrev a-scope-of : Option ℕ → ScopeKind → Option Scope
 a-scope-of parent kind = some (record { parent = parent; kind = kind })
 
@@ -84,9 +84,9 @@ type-shape TypeWord.Felt = bare
 type-shape TypeWord.Bool = bare
 type-shape TypeWord.U32 = bare
 type-shape TypeWord.Custom = shape Kind.Name Kind.Nothing Kind.Nothing Listed.Empty
-type-shape TypeWord.Ptr = shape Kind.Link Kind.Nothing Kind.Nothing Listed.Empty
-type-shape TypeWord.Tuple = shape Kind.Nothing Kind.Nothing Kind.Nothing Listed.Links
-type-shape TypeWord.Array = shape Kind.Link Kind.Size Kind.Nothing Listed.Empty
+type-shape TypeWord.Ptr = shape Kind.Number Kind.Nothing Kind.Nothing Listed.Empty
+type-shape TypeWord.Tuple = shape Kind.Nothing Kind.Nothing Kind.Nothing Listed.Numbers
+type-shape TypeWord.Array = shape Kind.Number Kind.Size Kind.Nothing Listed.Empty
 type-shape TypeWord.Other = bare
 
 unfoldable pub type-as : TypeWord → Tail → Option TypeExpr
@@ -99,18 +99,18 @@ type-as TypeWord.Tuple x = some (TypeExpr.Tuple (nums (x .list)))
 type-as TypeWord.Array x = some (TypeExpr.FixedArray (num (x .a)) (num (x .b)))
 type-as TypeWord.Other x = none
 
--- D, behind the spans: "with `-` for v there is no path"
+-- D, behind the spans. A let: "v is the destructured value; with `-` there is no path"
 abbrev pub path-ok : Option ℕ → List ℕ → Bool
 path-ok none [] = true
 path-ok none (n ∷ ns) = false
 path-ok (some v) ns = true
 
 abbrev pub definition-shape : DefinitionWord → Shape
-definition-shape DefinitionWord.Fn = shape Kind.Link Kind.Nothing Kind.Nothing Listed.Fields
+definition-shape DefinitionWord.Fn = shape Kind.Number Kind.Nothing Kind.Nothing Listed.Fields
 definition-shape DefinitionWord.Struct = shape Kind.Nothing Kind.Nothing Kind.Nothing Listed.Fields
-definition-shape DefinitionWord.Const = shape Kind.MaybeLink Kind.MaybeLink Kind.Nothing Listed.Empty
-definition-shape DefinitionWord.Let = shape Kind.MaybeLink Kind.MaybeLink Kind.MaybeLink Listed.Links
-definition-shape DefinitionWord.Param = shape Kind.Link Kind.Nothing Kind.Nothing Listed.Empty
+definition-shape DefinitionWord.Const = shape Kind.MaybeNumber Kind.MaybeNumber Kind.Nothing Listed.Empty
+definition-shape DefinitionWord.Let = shape Kind.MaybeNumber Kind.MaybeNumber Kind.MaybeNumber Listed.Numbers
+definition-shape DefinitionWord.Param = shape Kind.Number Kind.Nothing Kind.Nothing Listed.Empty
 definition-shape DefinitionWord.Use = shape Kind.Name Kind.Name Kind.Nothing Listed.Empty
 definition-shape DefinitionWord.Loop = bare
 definition-shape DefinitionWord.Other = bare
@@ -130,9 +130,9 @@ definition-as DefinitionWord.Other x = none
 -- E: the origin with its link and value, and the node
 abbrev pub origin-shape : OriginWord → Shape
 origin-shape OriginWord.Plain = shape Kind.Unused Kind.Unused Kind.Nothing Listed.Empty
-origin-shape OriginWord.Field = shape Kind.Link Kind.Name Kind.Nothing Listed.Empty
-origin-shape OriginWord.Arg = shape Kind.Link Kind.Link Kind.Nothing Listed.Empty
-origin-shape OriginWord.Assign = shape Kind.Link Kind.Unused Kind.Nothing Listed.Empty
+origin-shape OriginWord.Field = shape Kind.Number Kind.Name Kind.Nothing Listed.Empty
+origin-shape OriginWord.Arg = shape Kind.Number Kind.Number Kind.Nothing Listed.Empty
+origin-shape OriginWord.Assign = shape Kind.Number Kind.Unused Kind.Nothing Listed.Empty
 origin-shape OriginWord.Return = shape Kind.Unused Kind.Unused Kind.Nothing Listed.Empty
 origin-shape OriginWord.Cond = shape Kind.Unused Kind.Unused Kind.Nothing Listed.Empty
 origin-shape OriginWord.Other = bare
@@ -150,19 +150,19 @@ abbrev pub node-shape : NodeWord → Shape
 node-shape NodeWord.Lit = shape Kind.MaybeName Kind.Nothing Kind.Nothing Listed.Empty
 node-shape NodeWord.Bool = bare
 node-shape NodeWord.Ident = shape Kind.Name Kind.Nothing Kind.Nothing Listed.Empty
-node-shape NodeWord.Un = shape Kind.UnaryOp Kind.MaybeLink Kind.Nothing Listed.Empty
-node-shape NodeWord.Bin = shape Kind.BinaryOp Kind.MaybeLink Kind.MaybeLink Listed.Empty
-node-shape NodeWord.Call = shape Kind.MaybeLink Kind.Nothing Kind.Nothing Listed.MaybeLinks
-node-shape NodeWord.Member = shape Kind.MaybeLink Kind.Name Kind.Nothing Listed.Empty
-node-shape NodeWord.Index = shape Kind.MaybeLink Kind.MaybeLink Kind.Nothing Listed.Empty
+node-shape NodeWord.Un = shape Kind.UnaryOp Kind.MaybeNumber Kind.Nothing Listed.Empty
+node-shape NodeWord.Bin = shape Kind.BinaryOp Kind.MaybeNumber Kind.MaybeNumber Listed.Empty
+node-shape NodeWord.Call = shape Kind.MaybeNumber Kind.Nothing Kind.Nothing Listed.MaybeNumbers
+node-shape NodeWord.Member = shape Kind.MaybeNumber Kind.Name Kind.Nothing Listed.Empty
+node-shape NodeWord.Index = shape Kind.MaybeNumber Kind.MaybeNumber Kind.Nothing Listed.Empty
 node-shape NodeWord.Slit = shape Kind.Name Kind.Position Kind.Position Listed.Empty
-node-shape NodeWord.Tuple = shape Kind.Nothing Kind.Nothing Kind.Nothing Listed.MaybeLinks
-node-shape NodeWord.Tidx = shape Kind.MaybeLink Kind.Link Kind.Nothing Listed.Empty
-node-shape NodeWord.Arr = shape Kind.Nothing Kind.Nothing Kind.Nothing Listed.MaybeLinks
-node-shape NodeWord.Rep = shape Kind.MaybeLink Kind.Size Kind.Nothing Listed.Empty
-node-shape NodeWord.Cast = shape Kind.Link Kind.Nothing Kind.Nothing Listed.Empty
-node-shape NodeWord.New = shape Kind.Link Kind.MaybeLink Kind.Nothing Listed.Empty
-node-shape NodeWord.Paren = shape Kind.MaybeLink Kind.Nothing Kind.Nothing Listed.Empty
+node-shape NodeWord.Tuple = shape Kind.Nothing Kind.Nothing Kind.Nothing Listed.MaybeNumbers
+node-shape NodeWord.Tidx = shape Kind.MaybeNumber Kind.Number Kind.Nothing Listed.Empty
+node-shape NodeWord.Arr = shape Kind.Nothing Kind.Nothing Kind.Nothing Listed.MaybeNumbers
+node-shape NodeWord.Rep = shape Kind.MaybeNumber Kind.Size Kind.Nothing Listed.Empty
+node-shape NodeWord.Cast = shape Kind.Number Kind.Nothing Kind.Nothing Listed.Empty
+node-shape NodeWord.New = shape Kind.Number Kind.MaybeNumber Kind.Nothing Listed.Empty
+node-shape NodeWord.Paren = shape Kind.MaybeNumber Kind.Nothing Kind.Nothing Listed.Empty
 node-shape NodeWord.Other = bare
 
 unfoldable pub node-as : NodeWord → Tail → Option Expression
@@ -186,9 +186,9 @@ node-as NodeWord.Other x = none
 
 -- Q
 abbrev pub question-shape : QuestionWord → Shape
-question-shape QuestionWord.Expr = shape Kind.Link Kind.Link Kind.MaybeLink Listed.Empty
-question-shape QuestionWord.Def = shape Kind.Link Kind.Link Kind.Nothing Listed.Empty
-question-shape QuestionWord.OfType = shape Kind.Link Kind.Link Kind.Link Listed.Empty
+question-shape QuestionWord.Expr = shape Kind.Number Kind.Number Kind.MaybeNumber Listed.Empty
+question-shape QuestionWord.Def = shape Kind.Number Kind.Number Kind.Nothing Listed.Empty
+question-shape QuestionWord.OfType = shape Kind.Number Kind.Number Kind.Number Listed.Empty
 question-shape QuestionWord.Other = bare
 
 unfoldable pub question-as : QuestionWord → Tail → Option Question

@@ -32,17 +32,18 @@ pub record Item : Type 0 where
   pub first : Value
   pub second : Value
 
+-- (of `Empty` nothing is read)
 abbrev pub first-kind : Listed → Kind
 first-kind Listed.Empty = Kind.Unused
-first-kind Listed.Links = Kind.Link
-first-kind Listed.MaybeLinks = Kind.MaybeLink
+first-kind Listed.Numbers = Kind.Number
+first-kind Listed.MaybeNumbers = Kind.MaybeNumber
 first-kind Listed.Fields = Kind.Name
 
 abbrev pub second-kind : Listed → Kind
 second-kind Listed.Empty = Kind.Nothing
-second-kind Listed.Links = Kind.Nothing
-second-kind Listed.MaybeLinks = Kind.Nothing
-second-kind Listed.Fields = Kind.Link
+second-kind Listed.Numbers = Kind.Nothing
+second-kind Listed.MaybeNumbers = Kind.Nothing
+second-kind Listed.Fields = Kind.Number
 
 -- no further field stands here
 unfoldable pub at-end : Text → Bool
@@ -73,8 +74,8 @@ items-within (suc n) l t =
 
 abbrev pub is-empty-list : Listed → Bool
 is-empty-list Listed.Empty = true
-is-empty-list Listed.Links = false
-is-empty-list Listed.MaybeLinks = false
+is-empty-list Listed.Numbers = false
+is-empty-list Listed.MaybeNumbers = false
 is-empty-list Listed.Fields = false
 
 -- the bytes that are left are more than the items (`items-enough`)

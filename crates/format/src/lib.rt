@@ -15,9 +15,9 @@ pub enum LineWord {
 pub enum Kind {
     Nothing,
     // A link, a count or an index: a number below 65,536.
-    Link,
+    Number,
     // The same, or `-`.
-    MaybeLink,
+    MaybeNumber,
     Position,
     Size,
     Name,
@@ -32,9 +32,9 @@ pub enum Kind {
 // What the list at a line's end holds. `Empty` is no list.
 pub enum Listed {
     Empty,
-    Links,
-    MaybeLinks,
-    // A name and a link each.
+    Numbers,
+    MaybeNumbers,
+    // A name and a number each.
     Fields,
 }
 

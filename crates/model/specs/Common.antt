@@ -24,6 +24,10 @@ abbrev pub or-else : {A : Type 0} → Option A → Option A → Option A
 or-else none o = o
 or-else (some a) o = some a
 
+abbrev pub is-empty : {A : Type 0} → List A → Bool
+is-empty [] = true
+is-empty (x ∷ xs) = false
+
 abbrev pub is-none : {A : Type 0} → Option A → Bool
 is-none none = true
 is-none (some a) = false

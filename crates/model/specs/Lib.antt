@@ -4,4 +4,5 @@ pub mod Records
 pub mod Lookups
 pub mod Links
 pub mod Limits
+pub mod Refusals
 pub mod WellFormed

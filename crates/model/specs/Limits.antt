@@ -6,8 +6,8 @@ use Rattle.model.specs.Records.{TypeExpr, DefinitionKind, Definition, Ex
 
 -- ------------------------------------------------------------------ "links, counts and indexes are below 65,536, positions below 2^32, array sizes below 2^64"
 
-abbrev pub max-link : ℕ
-max-link = 65535
+abbrev pub max-number : ℕ
+max-number = 65535
 
 abbrev pub max-position : ℕ
 max-position = 4294967295
@@ -40,6 +40,20 @@ max-questions = 256
 
 abbrev pub max-items : ℕ
 max-items = 2048
+
+-- ------------------------------------------------------------------ "Record buffer 16,384 and type buffer 8,192 words .., answer buffer 4,160 bytes, list of open demands 256 places"
+
+abbrev pub record-words : ℕ
+record-words = 16384
+
+abbrev pub type-words : ℕ
+type-words = 8192
+
+abbrev pub answer-bytes : ℕ
+answer-bytes = 4160
+
+abbrev pub max-open-demands : ℕ
+max-open-demands = 256
 
 -- ------------------------------------------------------------------ records of a kind in all modules
 

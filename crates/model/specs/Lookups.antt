@@ -104,14 +104,14 @@ unfoldable pub in-let-initializer : Module → Definition → ℕ → ℕ → Bo
 in-let-initializer the-module definition start end =
     let-some (let-value (definition .kind)) false λ e. covered (expression-at the-module e) start end
 
--- the definition may stand behind its use, or stands before it
-unfoldable pub stands-before : Definition → ℕ → Bool
-stands-before definition start = is-top-level-allowed (definition .kind) || leb (definition .full-start) start
+-- the definition is of a kind that may stand behind its use, or it stands before the use
+unfoldable pub in-order : Definition → ℕ → Bool
+in-order definition start = is-top-level-allowed (definition .kind) || leb (definition .full-start) start
 
 -- the definition may be meant by its name at the span from start to end
 unfoldable pub visible-at : Module → Definition → ℕ → ℕ → Bool
 visible-at the-module definition start end =
-    stands-before definition start && not (in-let-initializer the-module definition start end)
+    in-order definition start && not (in-let-initializer the-module definition start end)
 
 unfoldable pub named-and-visible : Module → ℕ → Name → ℕ → ℕ → Definition → Bool
 named-and-visible the-module s name start end definition = named s name definition && visible-at the-module definition start end

@@ -1,11 +1,12 @@
 -- The records of an index, as document 01 lists them under "The file `resolve` reads". A record is known by its place in its module's
--- list of its kind, counted from 0, and a link is such a number. Names and order follow the Rust. Assumes nothing.
+-- list of its kind, counted from 0, and a link is such a number: an ExpressionId, a DefinitionIndex or a FileScopeId, by the field that holds
+-- it. (The code has three types for these.) Names follow the Rust where it has one. Assumes nothing.
 use Prim.Native.Nat.{ℕ}
 use mathlib.Core.List.{List}
 use mathlib.Core.Option.{Option}
 use Rattle.model.specs.Common.{Text}
 
--- 1 to 64 bytes from 21 to 7E hexadecimal
+-- "1 to 64 bytes from 21 to 7E hexadecimal, and not `-`"
 abbrev pub Name : Type 0
 Name = Text
 

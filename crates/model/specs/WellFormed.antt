@@ -1,4 +1,4 @@
--- What loading makes sure of, for the proofs of the code and for demand 3 (document 01, "The file `resolve` reads"). Assumes nothing.
+-- What the proofs use of what loading makes sure of (document 01, "The file `resolve` reads"). Assumes nothing.
 use Prim.Native.Nat.{ℕ, _≤_, _<_}
 use mathlib.Core.Path.{_≡_}
 use mathlib.Core.List.{List, List·Memᴰ}
@@ -20,7 +20,7 @@ use Rattle.model.specs.Links.{
   expression-expressions,
 }
 use Rattle.model.specs.Limits.{
-  max-link,
+  max-number,
   max-modules,
   max-scopes,
   max-type-exprs,
@@ -41,9 +41,8 @@ Present {A = A} o = (a : A) × (o ≡ some a)
 
 -- ------------------------------------------------------------------ links
 
--- Every link leads to a record of its kind, and a scope without parent is a module's
+-- Every link leads to a record of its kind
 pub record LinksLead (index : Index) : Type 0 where
-  pub root-kind : (m s : ℕ) (scope : Scope) → scope-in index m s ≡ some scope → scope .parent ≡ none → scope .kind ≡ ScopeKind.ModuleScope
   pub parent-found : (m s p : ℕ) (scope : Scope) → scope-in index m s ≡ some scope → scope .parent ≡ some p → Present (scope-in index m p)
   pub type-types-found : (m t u : ℕ) (type : TypeExpr) → type-in index m t ≡ some type → List·Memᴰ u (type-types type) → Present (type-in index m u)
   pub definition-scope-found : (m d : ℕ) (definition : Definition) → definition-in index m d ≡ some definition → Present (scope-in index m (definition .scope))
@@ -69,7 +68,7 @@ pub record HasRoot (the-module : Module) : Type 0 where
 -- ------------------------------------------------------------------ limits and questions
 
 -- the "At most" line
-pub record Limits (index : Index) : Type 0 where
+pub record WithinLimits (index : Index) : Type 0 where
   pub modules : length (index .modules) ≤ max-modules
   pub scopes : scope-count index ≤ max-scopes
   pub types : type-expr-count index ≤ max-type-exprs
@@ -87,9 +86,9 @@ QuestionLinks index (Question.type m t s) = Present (module-at index m) → Pres
 
 -- "links, counts and indexes are below 65,536": those that the answer line shows
 abbrev pub QuestionNumbers : Question → Type 0
-QuestionNumbers (Question.expr m e context) = (m ≤ max-link) × (e ≤ max-link)
-QuestionNumbers (Question.def m d) = (m ≤ max-link) × (d ≤ max-link)
-QuestionNumbers (Question.type m t s) = (m ≤ max-link) × (t ≤ max-link)
+QuestionNumbers (Question.expr m e context) = (m ≤ max-number) × (e ≤ max-number)
+QuestionNumbers (Question.def m d) = (m ≤ max-number) × (d ≤ max-number)
+QuestionNumbers (Question.type m t s) = (m ≤ max-number) × (t ≤ max-number)
 
 -- ------------------------------------------------------------------ the whole
 
@@ -98,6 +97,8 @@ pub record WellFormed (index : Index) : Type 0 where
   pub links : LinksLead index
   -- "names differ"
   pub names-differ : (m m′ : ℕ) (name : Name) → module-name index m ≡ some name → module-name index m′ ≡ some name → m ≡ m′
+  -- "`module` (with `-` and only then ..)"
+  pub root-kind : (m s : ℕ) (scope : Scope) → scope-in index m s ≡ some scope → scope .parent ≡ none → scope .kind ≡ ScopeKind.ModuleScope
   -- "Scope 0 has no parent; others have a lower-numbered one"
   pub has-root : (m : ℕ) (the-module : Module) → module-at index m ≡ some the-module → HasRoot the-module
   pub one-root : (m s : ℕ) (scope : Scope) → scope-in index m s ≡ some scope → scope .parent ≡ none → s ≡ 0
@@ -106,4 +107,4 @@ pub record WellFormed (index : Index) : Type 0 where
   pub types-earlier : (m t u : ℕ) (type : TypeExpr) → type-in index m t ≡ some type → List·Memᴰ u (type-types type) → u < t
   pub questions : (n : ℕ) (question : Question) → getElem? (index .questions) n ≡ some question → QuestionLinks index question
   pub question-numbers : (n : ℕ) (question : Question) → getElem? (index .questions) n ≡ some question → QuestionNumbers question
-  pub limits : Limits index
+  pub limits : WithinLimits index

@@ -17,7 +17,7 @@ use Rattle.format.specs.Load.{accepted, load}
 use Rattle.format.proofs.Linked.{below-of}
 use Rattle.format.proofs.Loaded.{loaded-well-formed}
 use Rattle.resolution.specs.Inside.{Inside, OutsideScope, OutsideDefinition, OutsideExpression, OutsideType, definition-names, expression-names, type-names, question-names, AboutOutside}
-use Rattle.resolution.specs.Secrecy.{StandsIn, Agree, FilesAgreeAsWorded}
+use Rattle.resolution.specs.Secrecy.{StandsIn, Supposed, FilesSupposedAsWorded}
 use Rattle.resolution.proofs.Appended.{
   BodyRecords,
   with-body,
@@ -195,17 +195,20 @@ module _ (version : ℕ) (o : Module) (others : List Module) where
           expressions = expressions-same;
         }
 
-  agree : (f g : Filling o) → Good f → Good g → (question : Question) → question-test o question ≡ true
-      → Agree (filled f) (filled g) (body-at (f .scope)) (body-at (g .scope)) question
-  agree f g f-good g-good question asked =
+  supposed : (f g : Filling o) → Good f → Good g → (question : Question) → question-test o question ≡ true
+      → Supposed (filled f) (filled g) (body-at (f .scope)) (body-at (g .scope)) question
+  supposed f g f-good g-good question asked =
       record {
-        one-version = refl;
         first-is-body = is-body version o (f .body) others (f .questions) (f .scope) (f-good .lower) (f-good .test);
         second-is-body = is-body version o (g .body) others (g .questions) (g .scope) (g-good .lower) (g-good .test);
         first-no-links = no-links version o (f .body) others (f .questions) (f .scope) (f-good .lower) (f-good .test);
         second-no-links = no-links version o (g .body) others (g .questions) (g .scope) (g-good .lower) (g-good .test);
-        first-stands = stands f g f-good g-good question asked;
-        second-stands = stands g f g-good f-good question asked;
+        agree =
+            record {
+              one-version = refl;
+              first-stands = stands f g f-good g-good question asked;
+              second-stands = stands g f g-good f-good question asked;
+            };
         first-about = about f f-good question asked;
         second-about = about g g-good question asked;
       }
@@ -226,7 +229,7 @@ module _ (version : ℕ) (o : Module) (others : List Module) where
 
   pub files-agree : (first second : Text) (f g : Filling o) → IsFilled first f → IsFilled second g → (question : Question) (first-place second-place : ℕ)
       → question-test o question ≡ true → getElem? (f .questions) first-place ≡ some question → getElem? (g .questions) second-place ≡ some question
-      → FilesAgreeAsWorded first second first-place second-place
+      → FilesSupposedAsWorded first second first-place second-place
   files-agree first second f g f-filled g-filled question first-place second-place asked first-asked second-asked =
       let f-good = good-file first f f-filled in
       let g-good = good-file second g g-filled in
@@ -242,7 +245,7 @@ module _ (version : ℕ) (o : Module) (others : List Module) where
               second-asked = second-asked;
               first-body = body-at (f .scope);
               second-body = body-at (g .scope);
-              agree = agree f g f-good g-good question asked;
+              supposed = supposed f g f-good g-good question asked;
             };
         first-no-literal = no-outside-literal version o (f .body) others (f .questions) (f .scope) (f-good .lower) (f-good .test);
         second-no-literal = no-outside-literal version o (g .body) others (g .questions) (g .scope) (g-good .lower) (g-good .test);

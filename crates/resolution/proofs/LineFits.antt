@@ -12,10 +12,10 @@ use Rattle.model.specs.Records.{Question, Index}
 use Rattle.format.specs.Load.{accepted, load}
 use Rattle.resolution.specs.Types.{first-table}
 use Rattle.resolution.specs.Run.{Outcome, answered, refused, resolve-question}
-use Rattle.resolution.specs.Answer.{decimal-digits, decimal, type-text, Verdict, max-text, max-answer-bytes, text-verdict, outcome-verdict, verdict, question-lead, verdict-fields, answer-line}
+use Rattle.resolution.specs.Answer.{decimal-digits, decimal, type-text, Verdict, max-text, text-verdict, outcome-verdict, verdict, question-lead, verdict-fields, answer-line}
 use Rattle.resolution.specs.TableOk.{Below, OutcomeOk}
 use Rattle.resolution.proofs.SafePrograms.{question-ok}
-use Rattle.model.specs.Limits.{max-link}
+use Rattle.model.specs.Limits.{max-number, answer-bytes}
 use Rattle.model.specs.WellFormed.{QuestionNumbers}
 use Rattle.model.proofs.Tests.{leb-le, ltb-false}
 use Rattle.format.proofs.Loaded.{loaded-well-formed}
@@ -44,7 +44,7 @@ more-digits most bound few n h (suc fuel) = at-test (ltb n 10)
     at-test false = omega (arith, length-append (decimal-digits fuel (n / 10)) ((48 + n % 10) ∷ []), few (n / 10) (omega arith) fuel)
 
 -- five digits for a link, two for a refusal
-decimal-five : (n : ℕ) → n ≤ max-link → length (decimal n) ≤ 5
+decimal-five : (n : ℕ) → n ≤ max-number → length (decimal n) ≤ 5
 unfolding decimal
 decimal-five n h =
     more-digits 4 10000 (more-digits 3 1000 (more-digits 2 100 (more-digits 1 10 one-digit))) n (omega arith) (suc n)
@@ -58,7 +58,7 @@ decimal-two n h = more-digits 1 10 one-digit n (omega arith) (suc n)
 append-le : (xs ys : Text) (a b : ℕ) → length xs ≤ a → length ys ≤ b → length (xs ++ ys) ≤ a + b
 append-le xs ys a b h k = omega (arith, length-append xs ys)
 
-lead-of : (word : Text) (m n : ℕ) → length word ≤ 5 → m ≤ max-link → n ≤ max-link → length (word ++ (decimal m ++ (bytes "\t" ++ (decimal n ++ bytes "\t")))) ≤ 17
+lead-of : (word : Text) (m n : ℕ) → length word ≤ 5 → m ≤ max-number → n ≤ max-number → length (word ++ (decimal m ++ (bytes "\t" ++ (decimal n ++ bytes "\t")))) ≤ 17
 lead-of word m n h hm hn =
     append-le word (decimal m ++ (bytes "\t" ++ (decimal n ++ bytes "\t"))) 5 12 h
     (append-le (decimal m) (bytes "\t" ++ (decimal n ++ bytes "\t")) 5 7 (decimal-five m hm)
@@ -95,7 +95,7 @@ fields-fit (Verdict.refused n) h =
     omega arith
 
 pub line-fits : (file : Text) (index : Index) (place : ℕ) (question : Question) → load file ≡ accepted index → getElem? (index .questions) place ≡ some question
-    → length (answer-line index question) ≤ max-answer-bytes
+    → length (answer-line index question) ≤ answer-bytes
 unfolding answer-line verdict
 line-fits file index place question loaded asked =
     let lead = lead-fits question (loaded-well-formed file index loaded .question-numbers place question asked) in

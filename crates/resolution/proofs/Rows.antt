@@ -7,10 +7,10 @@ use mathlib.Core.Option.{none, some}
 use lib.Dec.{T, eqb}
 use lib.ListN.{getD, drop, getElem?}
 use Rattle.model.specs.Common.{let-some, eq-numbers}
-use Rattle.model.specs.Records.{Name}
+use Rattle.model.specs.Records.{Name, NameWithType}
 use Rattle.model.proofs.Tests.{and-left, and-right, eqb-sound, eqb-self, eq-numbers-sound, eq-numbers-self}
 use Rattle.model.proofs.Search.{passes-some, first-passes, first-none-fails}
-use Rattle.resolution.specs.TypeData.{TypedField, TypeData}
+use Rattle.resolution.specs.TypeData.{TypeData}
 use Rattle.resolution.specs.Types.{Table, kind-number, row-numbers, row-names, eq-names, eq-type, find-type}
 
 -- ------------------------------------------------------------------ names
@@ -30,7 +30,7 @@ eq-names-self (x ∷ xs) = λ i. eq-numbers-self x i && eq-names-self xs i
 
 -- ------------------------------------------------------------------ rows
 
-fields-from : List Name → List ℕ → List TypedField
+fields-from : List Name → List ℕ → List NameWithType
 fields-from [] ts = []
 fields-from (n ∷ ns) [] = []
 fields-from (n ∷ ns) (t ∷ ts) = record { name = n; type = t } ∷ fields-from ns ts
@@ -49,10 +49,10 @@ row-from (suc (suc (suc (suc (suc (suc (suc (suc zero)))))))) ns names = TypeDat
 row-from (suc (suc (suc (suc (suc (suc (suc (suc (suc k))))))))) ns names =
     TypeData.Function (getD ns 0 0) (getD ns 1 0) (drop 3 ns) (getD ns 2 0)
 
-fields-back : (fields : List TypedField) → fields-from (map (λ field. field .name) fields) (map (λ field. field .type) fields) ≡ fields
+fields-back : (fields : List NameWithType) → fields-from (map (λ field. field .name) fields) (map (λ field. field .type) fields) ≡ fields
 unfolding fields-from
 fields-back [] = refl
-fields-back (field ∷ fields) = ap (λ (r : List TypedField). field ∷ r) (fields-back fields)
+fields-back (field ∷ fields) = ap (λ (r : List NameWithType). field ∷ r) (fields-back fields)
 
 row-back : (row : TypeData) → row-from (kind-number row) (row-numbers row) (row-names row) ≡ row
 unfolding row-from kind-number row-numbers row-names

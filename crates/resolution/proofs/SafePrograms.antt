@@ -9,11 +9,13 @@ use lib.ListN.{length, getElem?}
 use Rattle.model.specs.Records.{Name, TypeExpr, DefinitionKind, Origin, UnaryOp, BinaryOp, Expression, ExpressionInfo, Module, Question, Index}
 use Rattle.model.specs.Links.{field-types}
 use Rattle.resolution.specs.TypeData.{TypeData}
+use Rattle.model.specs.Limits.{max-open-demands}
 use Rattle.resolution.specs.Types.{Table, first-table, felt, bool, u32, unknown, error, unit}
-use Rattle.resolution.specs.Programs.{Demand, Answer, done, enter, look, if_then_else_, _>>=_, _>>_}
+use Rattle.resolution.specs.Programs.{Demand, Answer, done, enter, look, if_then_else_, _>>=_}
 use Rattle.resolution.specs.Views.{typed-fields, right-first, numeric-context, element-contexts, element-hint}
 use Rattle.resolution.specs.TypeResolution.{
   resolve-all,
+  infer-only,
   infer-arguments,
   infer-elements,
   all-same-type,
@@ -60,7 +62,7 @@ use Rattle.resolution.specs.TypeResolution.{
   program,
   question-program,
 }
-use Rattle.resolution.specs.Run.{Outcome, refused, run, is-open, demand, max-open-demands, resolve-question}
+use Rattle.resolution.specs.Run.{Outcome, refused, run, is-open, demand, resolve-question}
 use Rattle.resolution.specs.TableOk.{row-types, TableOk, Below, OptionBelow, DemandOk, AnswerOk, OutcomeOk}
 use Rattle.resolution.proofs.Steady.{compatible-later}
 use Rattle.resolution.proofs.Tables.{extends-below, base-below, first-table-ok}
@@ -76,13 +78,17 @@ resolve-all-safe ok m s (t ∷ ts) =
     safe-bind ok (safe-asked (Demand.type m t s) tt) λ after ok₁ x n good.
     safe-bind ok₁ (resolve-all-safe ok₁ m s ts) λ last ok₂ y ns goods. safe-done (all-cons last n ns (extends-below y n good) goods)
 
+infer-only-safe : {table : Table} → TableOk table → (m : ℕ) (child context : Option ℕ) → OptionBelow table context → Safe (λ tb u. Unit {0}) table (infer-only m child context)
+unfolding infer-only
+infer-only-safe ok m child context h =
+    safe-let-some _ (safe-done tt) λ e e′. safe-bind ok (safe-asked (Demand.expression m e context) h) λ after ok₁ x t good. safe-done tt
+
 infer-arguments-safe : {table : Table} → TableOk table → (m : ℕ) (params : List ℕ) → AllBelow table params → (index : ℕ) (args : List (Option ℕ))
     → Safe (λ tb u. Unit {0}) table (infer-arguments m params index args)
 unfolding infer-arguments
 infer-arguments-safe ok m params h index [] = safe-done tt
-infer-arguments-safe ok m params h index (none ∷ args) = infer-arguments-safe ok m params h (suc index) args
-infer-arguments-safe {table} ok m params h index (some arg ∷ args) =
-    safe-bind ok (safe-asked (Demand.expression m arg (getElem? params index)) (at-below table params index h)) λ after ok₁ x t good.
+infer-arguments-safe {table} ok m params h index (arg ∷ args) =
+    safe-bind ok (infer-only-safe ok m arg (getElem? params index) (at-below table params index h)) λ after ok₁ x u good.
     infer-arguments-safe ok₁ m params (all-later params x h) (suc index) args
 
 infer-elements-safe : {table : Table} → TableOk table → (m : ℕ) (contexts : List ℕ) → AllBelow table contexts → (index : ℕ) (elements : List (Option ℕ))
@@ -341,7 +347,7 @@ module _ {table : Table} (ok : TableOk table) (m : ℕ) (the-module : Module) (i
   unfolding new-type row-types
   new-safe t count =
       safe-bind ok
-      (safe-let-some _ (known ok felt (lit< tt)) λ e e′. safe-asked (Demand.expression m e (some felt)) (base-below ok felt (lit< tt)))
+      (infer-only-safe ok m count (some felt) (base-below ok felt (lit< tt)))
       λ after ok₁ x u good.
       safe-bind ok₁ (safe-asked (Demand.type m t (info .scope)) tt) λ last ok₂ y element good₂.
       safe-entered (TypeData.Pointer element) (all-cons last element [] good₂ (all-nil last))
@@ -402,7 +408,7 @@ module _ {table : Table} (ok : TableOk table) (m : ℕ) (the-module : Module) (i
       safe-let-some _ (safe-error ok) λ array-id e.
       safe-bind ok (safe-asked (Demand.expression m array-id none) tt) λ after ok₁ x array-type good.
       safe-bind ok₁
-      (safe-let-some _ (known ok₁ felt (lit< tt)) λ index-id e′. safe-asked (Demand.expression m index-id (some felt)) (base-below ok₁ felt (lit< tt)))
+      (infer-only-safe ok₁ m index (some felt) (base-below ok₁ felt (lit< tt)))
       λ later ok₂ y u good₂.
       safe-bind ok₂ (safe-row ok₂ array-type (extends-below y array-type good)) λ last ok₃ z row goods.
       safe-let-some _

@@ -10,7 +10,7 @@ use lib.ListN.{length, getElem?}
 use Rattle.model.specs.Common.{if_then_else_, let-some, eq-numbers, bytes}
 use Rattle.model.specs.Records.{Name, NameWithType, UnaryOp, BinaryOp}
 use Rattle.model.proofs.Tests.{none≢some, some-injective}
-use Rattle.resolution.specs.TypeData.{TypedField, TypeData}
+use Rattle.resolution.specs.TypeData.{TypeData}
 use Rattle.resolution.specs.Types.{Table, Array, Signature, is-u32-or-felt, as-tuple, as-pointer, as-array, as-struct, as-function, field-type, data-of, felt, u32, error}
 use Rattle.resolution.specs.Compatible.{are-types-compatible, UnaryOpSignature, OperatorSignature, unary-number, binary-number, unary-op-signatures, binary-op-signatures, unary-result, binary-result}
 use Rattle.resolution.specs.Views.{typed-fields, navigate, numeric, numeric-context, element-contexts, element-hint, suffix-type}
@@ -92,10 +92,10 @@ module _ {table : Table} (ok : TableOk table) where
   array-below (TypeData.Struct m d fields) array e h = absurd (none≢some e)
   array-below (TypeData.Function m d params u) array e h = absurd (none≢some e)
 
-  abbrev pub FieldsBelow : List TypedField → Type 0
+  abbrev pub FieldsBelow : List NameWithType → Type 0
   FieldsBelow fields = AllBelow table (map (λ field. field .type) fields)
 
-  pub struct-below : (row : TypeData) (fields : List TypedField) → as-struct row ≡ some fields → AllBelow table (row-types row) → FieldsBelow fields
+  pub struct-below : (row : TypeData) (fields : List NameWithType) → as-struct row ≡ some fields → AllBelow table (row-types row) → FieldsBelow fields
   unfolding as-struct row-types
   struct-below TypeData.Felt fields e h = absurd (none≢some e)
   struct-below TypeData.Bool fields e h = absurd (none≢some e)
@@ -124,7 +124,7 @@ module _ {table : Table} (ok : TableOk table) where
   function-below (TypeData.Struct m d fields) signature e h = absurd (none≢some e)
   function-below (TypeData.Function m d params u) signature e h = subst SignatureBelow (some-injective e) h
 
-  pub field-below : (fields : List TypedField) (name : Name) → FieldsBelow fields → OptionBelow table (field-type fields name)
+  pub field-below : (fields : List NameWithType) (name : Name) → FieldsBelow fields → OptionBelow table (field-type fields name)
   unfolding field-type
   field-below [] name h = tt
   field-below (field ∷ fields) name h = go (eq-numbers (field .name) name) (field-below fields name (λ u named. h u (List·Memᴰ·tail named)))

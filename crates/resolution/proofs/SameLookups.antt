@@ -26,7 +26,7 @@ use Rattle.model.specs.Lookups.{
   let-value,
   covered,
   in-let-initializer,
-  stands-before,
+  in-order,
   visible-at,
   named-and-visible,
   latest-visible-by-name,
@@ -37,11 +37,11 @@ use Rattle.model.specs.Lookups.{
   first-function-around,
 }
 use Rattle.model.specs.Links.{module-name, scope-in, type-in, definition-in, link, definition-expressions, expression-definitions, expression-expressions}
-use Rattle.model.specs.WellFormed.{Present, LinksLead}
+use Rattle.model.specs.WellFormed.{Present, LinksLead, WellFormed}
 use Rattle.model.proofs.Tests.{bool-same, and-left, and-right, eqb-sound, none≢some, some-injective}
 use Rattle.model.proofs.Search.{passes, passes-some, some-passes}
 use Rattle.resolution.specs.Inside.{Body, IsBody, Inside, body-scope, below, OutsideScope, OutsideDefinition, OutsideExpression, OutsideType, NothingLinksInside}
-use Rattle.resolution.specs.Secrecy.{Agree}
+use Rattle.resolution.specs.Secrecy.{Supposed}
 use Rattle.resolution.proofs.Found.{Found, neither, both, found-by, found-or-else}
 use Rattle.resolution.proofs.FoundBySearch.{first-found, last-found}
 
@@ -125,16 +125,16 @@ IsModuleScope ScopeKind.FunctionScope = ⊥
 IsModuleScope ScopeKind.BlockScope = ⊥
 IsModuleScope ScopeKind.LoopScope = ⊥
 
-pub root-outside : (index : Index) (body : Body) → LinksLead index → IsBody index body → (m s : ℕ) (scope : Scope)
+pub root-outside : (index : Index) (body : Body) → WellFormed index → IsBody index body → (m s : ℕ) (scope : Scope)
     → scope-in index m s ≡ some scope → scope .parent ≡ none → Inside index body m s → ⊥
-root-outside index body accepted is-body m s scope e root (body-scope m-is s-is) =
+root-outside index body formed is-body m s scope e root (body-scope m-is s-is) =
     subst IsModuleScope
-    (sym (accepted .root-kind m s scope e root) ∙ ap (λ r. r .kind) (some-injective (sym e ∙ here)) ∙ is-body .is-function)
+    (sym (formed .root-kind m s scope e root) ∙ ap (λ r. r .kind) (some-injective (sym e ∙ here)) ∙ is-body .is-function)
     tt
   where
     here : scope-in index m s ≡ some (is-body .scope)
     here = (λ i. scope-in index (m-is i) (s-is i)) ∙ is-body .found
-root-outside index body accepted is-body m s scope e root (below e′ has-parent inside) =
+root-outside index body formed is-body m s scope e root (below e′ has-parent inside) =
     none≢some (sym root ∙ ap (λ r. r .parent) (some-injective (sym e ∙ e′)) ∙ has-parent)
 
 -- a module with its name
@@ -145,11 +145,11 @@ named-module (some the-module) name e = (the-module, refl, some-injective e)
 
 -- ------------------------------------------------------------------ two indexes that agree
 
--- two accepted indexes that agree
+-- two accepted indexes of which demand 3 supposes what it supposes
 pub record Hidden (first second : Index) (first-body second-body : Body) (question : Question) : Type 0 where
-  pub agree : Agree first second first-body second-body question
-  pub first-links : LinksLead first
-  pub second-links : LinksLead second
+  pub supposed : Supposed first second first-body second-body question
+  pub first-formed : WellFormed first
+  pub second-formed : WellFormed second
 
 -- an outside T that is there
 pub record OutsideTypeExpr (index : Index) (body : Body) (question : Question) (m t : ℕ) : Type 0 where
@@ -167,7 +167,7 @@ pub record Sides (first second : Index) (m : ℕ) : Type 0 where
 module _ (A B : Index) (a b : Body) (q : Question) (hidden : Hidden A B a b q) where
   pub sides-of : (m : ℕ) → Present (module-at A m) → Sides A B m
   sides-of m (left, e) =
-      let (right, e′) = module-found B m (λ the-module. some (the-module .name)) (hidden .agree .first-stands .modules m (left .name) (in-module e (λ the-module. some (the-module .name)))) in
+      let (right, e′) = module-found B m (λ the-module. some (the-module .name)) (hidden .supposed .agree .first-stands .modules m (left .name) (in-module e (λ the-module. some (the-module .name)))) in
       record { left = left; right = right; left-found = e; right-found = e′ }
 
   module _ (m : ℕ) (sides : Sides A B m) where
@@ -178,21 +178,21 @@ module _ (A B : Index) (a b : Body) (q : Question) (hidden : Hidden A B a b q) w
 
     pub right-scope : {s : ℕ} (outside : OutsideScope A a m s) → scope-at (sides .right) s ≡ some (outside .scope)
     right-scope {s} outside =
-        sym (in-module (sides .right-found) (λ the-module. scope-at the-module s)) ∙ hidden .agree .first-stands .scopes m s outside .0
+        sym (in-module (sides .right-found) (λ the-module. scope-at the-module s)) ∙ hidden .supposed .agree .first-stands .scopes m s outside .0
 
     pub left-definition : {d : ℕ} (outside : OutsideDefinition A a m d) → definition-at (sides .left) d ≡ some (outside .definition)
     left-definition {d} outside = sym (in-module (sides .left-found) (λ the-module. definition-at the-module d)) ∙ outside .found
 
     pub right-definition : {d : ℕ} (outside : OutsideDefinition A a m d) → definition-at (sides .right) d ≡ some (outside .definition)
     right-definition {d} outside =
-        sym (in-module (sides .right-found) (λ the-module. definition-at the-module d)) ∙ hidden .agree .first-stands .definitions m d outside .0
+        sym (in-module (sides .right-found) (λ the-module. definition-at the-module d)) ∙ hidden .supposed .agree .first-stands .definitions m d outside .0
 
     pub left-expression : {e : ℕ} (outside : OutsideExpression A a m e) → expression-at (sides .left) e ≡ some (outside .expression)
     left-expression {e} outside = sym (in-module (sides .left-found) (λ the-module. expression-at the-module e)) ∙ outside .found
 
     pub right-expression : {e : ℕ} (outside : OutsideExpression A a m e) → expression-at (sides .right) e ≡ some (outside .expression)
     right-expression {e} outside =
-        sym (in-module (sides .right-found) (λ the-module. expression-at the-module e)) ∙ hidden .agree .first-stands .expressions m e outside .0
+        sym (in-module (sides .right-found) (λ the-module. expression-at the-module e)) ∙ hidden .supposed .agree .first-stands .expressions m e outside .0
 
     pub left-type : {t : ℕ} (outside : OutsideTypeExpr A a q m t) → type-expr-at (sides .left) t ≡ some (outside .type)
     left-type {t} outside = sym (in-module (sides .left-found) (λ the-module. type-expr-at the-module t)) ∙ outside .found
@@ -200,7 +200,7 @@ module _ (A B : Index) (a b : Body) (q : Question) (hidden : Hidden A B a b q) w
     pub right-type : {t : ℕ} (outside : OutsideTypeExpr A a q m t) → type-expr-at (sides .right) t ≡ some (outside .type)
     right-type {t} outside =
         sym (in-module (sides .right-found) (λ the-module. type-expr-at the-module t))
-        ∙ hidden .agree .first-stands .types m t (outside .type) (outside .named) (outside .found) .0
+        ∙ hidden .supposed .agree .first-stands .types m t (outside .type) (outside .named) (outside .found) .0
 
     -- ---------------------------------------------------------------- scopes
 
@@ -209,7 +209,7 @@ module _ (A B : Index) (a b : Body) (q : Question) (hidden : Hidden A B a b q) w
     parent-found {s} outside =
         found-by (OutsideScope A a m)
         (in-module′ (left-scope outside) ∙ sym (in-module′ (right-scope outside)))
-        (λ p e. parent-outside A a (hidden .first-links) (hidden .agree .first-no-links) outside (sym (in-module′ (left-scope outside)) ∙ e))
+        (λ p e. parent-outside A a (hidden .first-formed .links) (hidden .supposed .first-no-links) outside (sym (in-module′ (left-scope outside)) ∙ e))
       where
         in-module′ : {o : Option Scope} {scope : Scope} → o ≡ some scope → let-some o none (λ r. r .parent) ≡ scope .parent
         in-module′ here = ap (λ o. let-some o none (λ r. r .parent)) here
@@ -264,7 +264,7 @@ module _ (A B : Index) (a b : Body) (q : Question) (hidden : Hidden A B a b q) w
         to-left : (x : Definition) × (definition-at (sides .right) d ≡ some x) × (test′ x ≡ true) → passes test (sides .left .definitions) d ≡ true
         to-left (x, e, t) =
             let e′ : definition-in B m d ≡ some x = in-module (sides .right-found) (λ the-module. definition-at the-module d) ∙ e in
-            let stands = hidden .agree .second-stands .definitions m d (record { definition = x; found = e′; not-inside = in-B d x e′ t }) in
+            let stands = hidden .supposed .agree .second-stands .definitions m d (record { definition = x; found = e′; not-inside = in-B d x e′ t }) in
             let outside : OutsideDefinition A a m d = record { definition = x; found = stands .0; not-inside = stands .1 } in
             some-passes test (left-definition outside) (same d outside ∙ t)
 
@@ -295,7 +295,7 @@ module _ (A B : Index) (a b : Body) (q : Question) (hidden : Hidden A B a b q) w
         in-A d x e t = named-outside A a s name (outside .not-inside) x t
 
         in-B : (d : ℕ) (x : Definition) → definition-in B m d ≡ some x → named s name x ≡ true → Inside B b m (x .scope) → ⊥
-        in-B d x e t = named-outside B b s name (hidden .agree .first-stands .scopes m s outside .1) x t
+        in-B d x e t = named-outside B b s name (hidden .supposed .agree .first-stands .scopes m s outside .1) x t
 
     pub chain-lookup-found : (name : Name) {s : ℕ} → OutsideScope A a m s
         → Found (OutsideDefinition A a m) (latest-definition-index-by-name-in-chain (sides .left) s name) (latest-definition-index-by-name-in-chain (sides .right) s name)
@@ -313,13 +313,13 @@ module _ (A B : Index) (a b : Body) (q : Question) (hidden : Hidden A B a b q) w
             → let-some o false (λ e. covered (expression-at (sides .left) e) start end) ≡ let-some o false (λ e. covered (expression-at (sides .right) e) start end)
         go none h = refl
         go (some e) h =
-            let value = definition-expression-outside A a (hidden .first-links) (hidden .agree .first-no-links) outside (let-value-named (outside .definition .kind) e h) in
+            let value = definition-expression-outside A a (hidden .first-formed .links) (hidden .supposed .first-no-links) outside (let-value-named (outside .definition .kind) e h) in
             ap (λ o. covered o start end) (left-expression value ∙ sym (right-expression value))
 
     visible-same : {d : ℕ} (outside : OutsideDefinition A a m d) (start end : ℕ)
         → visible-at (sides .left) (outside .definition) start end ≡ visible-at (sides .right) (outside .definition) start end
     unfolding visible-at
-    visible-same outside start end = ap (λ inside. stands-before (outside .definition) start && not inside) (let-initializer-same outside start end)
+    visible-same outside start end = ap (λ inside. in-order (outside .definition) start && not inside) (let-initializer-same outside start end)
 
     latest-visible-found : (name : Name) (start end s : ℕ) → OutsideScope A a m s
         → Found (OutsideDefinition A a m) (latest-visible-by-name (sides .left) s name start end) (latest-visible-by-name (sides .right) s name start end)
@@ -337,7 +337,7 @@ module _ (A B : Index) (a b : Body) (q : Question) (hidden : Hidden A B a b q) w
 
         in-B : (d : ℕ) (x : Definition) → definition-in B m d ≡ some x → test (sides .right) x ≡ true → Inside B b m (x .scope) → ⊥
         in-B d x e t =
-            named-outside B b s name (hidden .agree .first-stands .scopes m s outside .1) x
+            named-outside B b s name (hidden .supposed .agree .first-stands .scopes m s outside .1) x
             (and-left (named s name x) (visible-at (sides .right) x start end) t)
 
     pub name-at-position-found : (name : Name) (start end : ℕ) {s : ℕ} → OutsideScope A a m s
@@ -363,7 +363,7 @@ module _ (A B : Index) (a b : Body) (q : Question) (hidden : Hidden A B a b q) w
         go : (any (eqb n) xs ≡ true → (Inside A a m n → ⊥) × (Inside B b m n → ⊥)) → (found : Bool) → eqb n s ≡ found → (found || any (eqb n) xs) ≡ true → (Inside A a m n → ⊥) × (Inside B b m n → ⊥)
         go later true h t = (
           λ inside. outside .not-inside (subst (Inside A a m) (eqb-sound n s h) inside),
-          λ inside. hidden .agree .first-stands .scopes m s outside .1 (subst (Inside B b m) (eqb-sound n s h) inside),
+          λ inside. hidden .supposed .agree .first-stands .scopes m s outside .1 (subst (Inside B b m) (eqb-sound n s h) inside),
         )
         go later false h t = later t
 
@@ -411,7 +411,7 @@ module _ (A B : Index) (a b : Body) (q : Question) (hidden : Hidden A B a b q) w
         outside-A s e =
             let (x, e′, t) = passes-some (scope-at (sides .left) s) test e in
             let e″ : scope-in A m s ≡ some x = in-module (sides .left-found) (λ the-module. scope-at the-module s) ∙ e′ in
-            (record { scope = x; found = e″; not-inside = root-outside A a (hidden .first-links) (hidden .agree .first-is-body) m s x e″ (no-parent (x .parent) t) }, t)
+            (record { scope = x; found = e″; not-inside = root-outside A a (hidden .first-formed) (hidden .supposed .first-is-body) m s x e″ (no-parent (x .parent) t) }, t)
 
         to-right : (s : ℕ) → (outside : OutsideScope A a m s) × (test (outside .scope) ≡ true) → passes test (sides .right .scopes) s ≡ true
         to-right s (outside, t) = some-passes test (right-scope outside) t
@@ -420,7 +420,7 @@ module _ (A B : Index) (a b : Body) (q : Question) (hidden : Hidden A B a b q) w
         to-left s e =
             let (x, e′, t) = passes-some (scope-at (sides .right) s) test e in
             let e″ : scope-in B m s ≡ some x = in-module (sides .right-found) (λ the-module. scope-at the-module s) ∙ e′ in
-            let stands = hidden .agree .second-stands .scopes m s (record { scope = x; found = e″; not-inside = root-outside B b (hidden .second-links) (hidden .agree .second-is-body) m s x e″ (no-parent (x .parent) t) }) in
+            let stands = hidden .supposed .agree .second-stands .scopes m s (record { scope = x; found = e″; not-inside = root-outside B b (hidden .second-formed) (hidden .supposed .second-is-body) m s x e″ (no-parent (x .parent) t) }) in
             some-passes test (sym (in-module (sides .left-found) (λ the-module. scope-at the-module s)) ∙ stands .0) t
 
   -- ------------------------------------------------------------------ modules by name
@@ -431,8 +431,8 @@ module _ (A B : Index) (a b : Body) (q : Question) (hidden : Hidden A B a b q) w
       first-found (λ m. Present (module-at A m)) test test (A .modules) (B .modules)
       (λ m.
       bool-same (passes test (A .modules) m) (passes test (B .modules) m)
-      (λ e. across A B m (hidden .agree .first-stands .modules m) e)
-      (λ e. across B A m (hidden .agree .second-stands .modules m) e))
+      (λ e. across A B m (hidden .supposed .agree .first-stands .modules m) e)
+      (λ e. across B A m (hidden .supposed .agree .second-stands .modules m) e))
       (λ m e. let (x, e′, t) = passes-some (module-at A m) test e in (x, e′))
     where
       test : Module → Bool

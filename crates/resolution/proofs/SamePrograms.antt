@@ -15,9 +15,10 @@ use Rattle.model.specs.WellFormed.{Present}
 use Rattle.resolution.specs.Types.{as-tuple, as-pointer, as-array, as-struct, as-function, field-type, data-of, error, felt}
 use Rattle.resolution.specs.Compatible.{are-types-compatible, is-commutative}
 use Rattle.resolution.specs.Programs.{Demand}
-use Rattle.resolution.specs.Views.{is-array-expr, is-unsuffixed-literal, as-identifier, as-struct-literal, find-type-expr, struct-field, names-array-expr, operand-is-unsuffixed-literal, right-first, callee-is-builtin, suffix-type}
+use Rattle.resolution.specs.Views.{is-array-expr, is-unsuffixed-literal, as-identifier, as-struct-literal, struct-field, names-array-expr, operand-is-unsuffixed-literal, right-first, callee-is-builtin, suffix-type}
 use Rattle.resolution.specs.TypeResolution.{
   resolve-all,
+  infer-only,
   infer-arguments,
   infer-elements,
   all-same-type,
@@ -94,8 +95,8 @@ use Rattle.resolution.proofs.SameLookups.{
 }
 
 -- the type of a struct's field is a link of the struct
-find-named : (fields : List NameWithType) (name : Name) → Found (λ t. List·Memᴰ t (field-types fields)) (find-type-expr fields name) (find-type-expr fields name)
-unfolding find-type-expr
+find-named : (fields : List NameWithType) (name : Name) → Found (λ t. List·Memᴰ t (field-types fields)) (field-type fields name) (field-type fields name)
+unfolding field-type
 find-named [] name = neither
 find-named (field ∷ fields) name = go (eq-numbers (field .name) name) (find-named fields name)
   where
@@ -103,10 +104,10 @@ find-named (field ∷ fields) name = go (eq-numbers (field .name) name) (find-na
     later neither = neither
     later (both t h) = both t (List·Memᴰ·tail h)
 
-    go : (b : Bool) → Found (λ t. List·Memᴰ t (field-types fields)) (find-type-expr fields name) (find-type-expr fields name)
+    go : (b : Bool) → Found (λ t. List·Memᴰ t (field-types fields)) (field-type fields name) (field-type fields name)
         → Found (λ t. List·Memᴰ t (field-types (field ∷ fields)))
-        (if b then some (field .type) else find-type-expr fields name)
-        (if b then some (field .type) else find-type-expr fields name)
+        (if b then some (field .type) else field-type fields name)
+        (if b then some (field .type) else field-type fields name)
     go true h = both (field .type) (List·Memᴰ·head refl)
     go false h = later h
 
@@ -133,17 +134,17 @@ module _ (A B : Index) (a b : Body) (q : Question) (hidden : Hidden A B a b q) w
 
   type-type-outside : {m t u : ℕ} (outside : OutsideTypeExpr A a q m t) → List·Memᴰ u (type-types (outside .type)) → OutsideTypeExpr A a q m u
   type-type-outside {m} {t} {u} outside named =
-      let (type, e) = hidden .first-links .type-types-found m t u (outside .type) (outside .found) named in
+      let (type, e) = hidden .first-formed .links .type-types-found m t u (outside .type) (outside .found) named in
       record { type = type; found = e; named = type-names (outside .named) (outside .found) named }
 
   definition-type-outside : {m d t : ℕ} (outside : OutsideDefinition A a m d) → List·Memᴰ t (definition-types (outside .definition .kind)) → OutsideTypeExpr A a q m t
   definition-type-outside {m} {d} {t} outside named =
-      let (type, e) = hidden .first-links .definition-types-found m d t (outside .definition) (outside .found) named in
+      let (type, e) = hidden .first-formed .links .definition-types-found m d t (outside .definition) (outside .found) named in
       record { type = type; found = e; named = definition-names outside named }
 
   expression-type-outside : {m e t : ℕ} (outside : OutsideExpression A a m e) → List·Memᴰ t (expression-types (outside .expression)) → OutsideTypeExpr A a q m t
   expression-type-outside {m} {e} {t} outside named =
-      let (type, h) = hidden .first-links .expression-types-found m e t (outside .expression) (outside .found) named in
+      let (type, h) = hidden .first-formed .links .expression-types-found m e t (outside .expression) (outside .found) named in
       record { type = type; found = h; named = expression-names outside named }
 
   -- ------------------------------------------------------------------ lists of demands
@@ -157,14 +158,20 @@ module _ (A B : Index) (a b : Body) (q : Question) (hidden : Hidden A B a b q) w
         same-bind (same-asked (Demand.type m t s) (h t (List·Memᴰ·head refl), scope)) λ n.
         same-bind (resolve-all-same scope ts (λ u named. h u (List·Memᴰ·tail named))) λ ns. same-done (n ∷ ns)
 
+    infer-only-same : (child context : Option ℕ) → ((e : ℕ) → List·Memᴰ e (link child) → OutsideExpression A a m e)
+        → Same OutsideDemand (infer-only m child context) (infer-only m child context)
+    unfolding infer-only
+    infer-only-same child context h =
+        same-let-some (found-link child) (same-done tt) λ e named.
+        same-bind (same-asked (Demand.expression m e context) (h e named)) λ t. same-done tt
+
     infer-arguments-same : (params : List ℕ) (index : ℕ) (args : List (Option ℕ)) → ((e : ℕ) → List·Memᴰ e (links args) → OutsideExpression A a m e)
         → Same OutsideDemand (infer-arguments m params index args) (infer-arguments m params index args)
     unfolding infer-arguments
     infer-arguments-same params index [] h = same-done tt
-    infer-arguments-same params index (none ∷ args) h = infer-arguments-same params (suc index) args h
-    infer-arguments-same params index (some arg ∷ args) h =
-        same-bind (same-asked (Demand.expression m arg (getElem? params index)) (h arg (List·Memᴰ·head refl))) λ t.
-        infer-arguments-same params (suc index) args (λ e named. h e (List·Memᴰ·tail named))
+    infer-arguments-same params index (arg ∷ args) h =
+        same-bind (infer-only-same arg (getElem? params index) (λ e named. h e (Memᴰ·append-left (links args) named))) λ u.
+        infer-arguments-same params (suc index) args (λ e named. h e (Memᴰ·append-right (link arg) named))
 
     infer-elements-same : (contexts : List ℕ) (index : ℕ) (elements : List (Option ℕ)) → ((e : ℕ) → List·Memᴰ e (links elements) → OutsideExpression A a m e)
         → Same OutsideDemand (infer-elements m contexts index elements) (infer-elements m contexts index elements)
@@ -197,17 +204,17 @@ module _ (A B : Index) (a b : Body) (q : Question) (hidden : Hidden A B a b q) w
   outside-info : {m e : ℕ} (outside : OutsideExpression A a m e) → OutsideInfo m (outside .expression)
   outside-info {m} {e} outside =
       record {
-        scope = expression-scope-outside A a (hidden .first-links) (hidden .agree .first-no-links) outside;
+        scope = expression-scope-outside A a (hidden .first-formed .links) (hidden .supposed .first-no-links) outside;
         expected = λ t named. expression-type-outside outside (Memᴰ·append-left (node-types (outside .expression .node)) named);
         types = λ t named. expression-type-outside outside (Memᴰ·append-right (link (outside .expression .expected)) named);
-        definition = λ d named. expression-definition-outside A a (hidden .first-links) (hidden .agree .first-no-links) outside named;
+        definition = λ d named. expression-definition-outside A a (hidden .first-formed .links) (hidden .supposed .first-no-links) outside named;
         origin =
             λ f named.
-            expression-expression-outside A a (hidden .first-links) (hidden .agree .first-no-links) outside
+            expression-expression-outside A a (hidden .first-formed .links) (hidden .supposed .first-no-links) outside
             (Memᴰ·append-left (node-expressions (outside .expression .node)) named);
         children =
             λ f named.
-            expression-expression-outside A a (hidden .first-links) (hidden .agree .first-no-links) outside
+            expression-expression-outside A a (hidden .first-formed .links) (hidden .supposed .first-no-links) outside
             (Memᴰ·append-right (origin-expressions (outside .expression .origin)) named);
       }
 
@@ -293,7 +300,7 @@ module _ (A B : Index) (a b : Body) (q : Question) (hidden : Hidden A B a b q) w
         found-by (OutsideDefinition A a m)
         (recorded (left-expression A B a b q hidden m sides outside) ∙ sym (recorded (right-expression A B a b q hidden m sides outside)))
         (λ d e.
-        expression-definition-outside A a (hidden .first-links) (hidden .agree .first-no-links) outside
+        expression-definition-outside A a (hidden .first-formed .links) (hidden .supposed .first-no-links) outside
         (link-mem (sym (recorded (left-expression A B a b q hidden m sides outside)) ∙ e)))
       where
         recorded : {o : Option ExpressionInfo} {x : ExpressionInfo} → o ≡ some x → let-some o none (λ r. r .definition) ≡ x .definition
@@ -350,7 +357,7 @@ module _ (A B : Index) (a b : Body) (q : Question) (hidden : Hidden A B a b q) w
         same-let-some (name-at-position-found A B a b q hidden m sides (literal .name) (literal .start) (literal .end) (known .scope)) (same-done none) λ d outside-d.
         same-let-some (field-definition-found outside-d) (same-done none) λ definition types.
         same-let-some (struct-field-named (definition .kind) field) (same-done none) λ t named.
-        same-bind (same-asked (Demand.type m t (parent-info .scope)) (types t named, known .scope)) λ field-type. same-done (some field-type)
+        same-bind (same-asked (Demand.type m t (parent-info .scope)) (types t named, known .scope)) λ type. same-done (some type)
 
     origin-same : (info : ExpressionInfo) → OutsideScope A a m (info .scope) → (origin : Origin)
         → ((e : ℕ) → List·Memᴰ e (origin-expressions origin) → OutsideExpression A a m e)
@@ -409,7 +416,7 @@ module _ (A B : Index) (a b : Body) (q : Question) (hidden : Hidden A B a b q) w
       unfolding new-type
       new-same {t} type count h =
           same-bind
-          (same-let-some (found-link count) (same-done felt) λ e named. same-asked (Demand.expression m e (some felt)) (h e named))
+          (infer-only-same m count (some felt) h)
           λ counted.
           same-bind (same-asked (Demand.type m t (info .scope)) (type, scope)) λ element. same-entered _
 
@@ -488,8 +495,7 @@ module _ (A B : Index) (a b : Body) (q : Question) (hidden : Hidden A B a b q) w
           same-let-some (found-link array) (same-done error) λ array-id named.
           same-bind (same-asked (Demand.expression m array-id none) (h array-id (Memᴰ·append-left (link index) named))) λ array-type.
           same-bind
-          (same-let-some (found-link index) (same-done felt) λ index-id named-i.
-          same-asked (Demand.expression m index-id (some felt)) (h index-id (Memᴰ·append-right (link array) named-i)))
+          (infer-only-same m index (some felt) (λ e named-i. h e (Memᴰ·append-right (link array) named-i)))
           λ u.
           same-bind (same-read (λ table. data-of table array-type)) λ row.
           same-let-some (found-self (as-array row))
@@ -609,9 +615,9 @@ module _ (A B : Index) (a b : Body) (q : Question) (hidden : Hidden A B a b q) w
   definition-found {m} {d} sides outside =
       found-two (left-definition A B a b q hidden m sides outside) (right-definition A B a b q hidden m sides outside)
       (record {
-        scope = definition-scope-outside A a (hidden .first-links) (hidden .agree .first-no-links) outside;
+        scope = definition-scope-outside A a (hidden .first-formed .links) (hidden .supposed .first-no-links) outside;
         types = λ t named. definition-type-outside outside named;
-        expressions = λ e named. definition-expression-outside A a (hidden .first-links) (hidden .agree .first-no-links) outside named;
+        expressions = λ e named. definition-expression-outside A a (hidden .first-formed .links) (hidden .supposed .first-no-links) outside named;
       })
 
   use-same : (imported-module item : Name) → Same OutsideDemand (use-type A imported-module item) (use-type B imported-module item)

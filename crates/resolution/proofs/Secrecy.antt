@@ -6,15 +6,17 @@ use mathlib.Core.List.{List, [], _∷_, _++_}
 use mathlib.Core.Option.{some}
 use lib.ListN.{getElem?}
 use Rattle.model.specs.Records.{Question, Index}
+use Rattle.model.specs.Limits.{max-open-demands}
 use Rattle.resolution.specs.Types.{Table, first-table}
 use Rattle.resolution.specs.Programs.{Demand}
-use Rattle.resolution.specs.Run.{refused, is-open, demand, max-open-demands, resolve-question}
-use Rattle.resolution.specs.Answer.{outcome-verdict, verdict, question-lead, verdict-fields, answer-line}
+use Rattle.resolution.specs.Run.{refused, is-open, demand, resolve-question}
+use Rattle.resolution.specs.Answer.{Verdict, outcome-verdict, verdict, question-lead, verdict-fields, answer-line}
 use Rattle.model.specs.Common.{Text, let-some}
+use Rattle.model.specs.Refusals.{refusal-link}
 use Rattle.format.specs.Load.{accepted, load}
 use Rattle.format.proofs.Loaded.{loaded-well-formed}
 use Rattle.resolution.specs.Inside.{Body}
-use Rattle.resolution.specs.Resolve.{Reply, ask-loaded, answer}
+use Rattle.resolution.specs.Resolve.{Reply, line-of, reply-from, ask-loaded, answer}
 use Rattle.resolution.specs.Secrecy.{BodiesAreHidden, DemandThree}
 use Rattle.resolution.proofs.SameLookups.{Hidden}
 use Rattle.resolution.proofs.Found.{run-same}
@@ -43,22 +45,31 @@ module _ (A B : Index) (a b : Body) (q : Question) (hidden : Hidden A B a b q) w
   resolve-same =
       run-same (demand max-open-demands A []) (demand max-open-demands B [])
       (λ d outside table. demand-same max-open-demands [] d outside table)
-      (question-same A B a b q hidden q refl (hidden .agree .first-about))
+      (question-same A B a b q hidden q refl (hidden .supposed .first-about))
       first-table
 
-  line-same : answer-line A q ≡ answer-line B q
-  unfolding answer-line verdict
-  line-same = ap (λ outcome. question-lead q ++ verdict-fields (outcome-verdict outcome)) resolve-same
+  verdict-same : verdict A q ≡ verdict B q
+  unfolding verdict
+  verdict-same = ap outcome-verdict resolve-same
 
 -- ------------------------------------------------------------------ files
 
 -- the answer of an accepted file's question
-pub answered-line : (file : Text) (place : ℕ) (index : Index) (question : Question) → load file ≡ accepted index → getElem? (index .questions) place ≡ some question
-    → answer file place ≡ Reply.line (answer-line index question)
+pub question-answered : (file : Text) (place : ℕ) (index : Index) (question : Question) → load file ≡ accepted index → getElem? (index .questions) place ≡ some question
+    → answer file place ≡ reply-from (question-lead question) (verdict index question)
 unfolding answer ask-loaded
-answered-line file place index question loaded asked =
+question-answered file place index question loaded asked =
     ap (λ loading. ask-loaded loading place) loaded
-    ∙ ap (λ o. let-some o (Reply.refused 5 0) (λ q. Reply.line (answer-line index q))) asked
+    ∙ ap (λ o. let-some o (Reply.file-refused refusal-link 0) (λ q. reply-from (question-lead q) (verdict index q))) asked
+
+-- its line
+pub reply-line : (index : Index) (question : Question) → line-of (reply-from (question-lead question) (verdict index question)) ≡ some (answer-line index question)
+unfolding answer-line line-of reply-from
+reply-line index question = at (verdict index question)
+  where
+    at : (v : Verdict) → line-of (reply-from (question-lead question) v) ≡ some (question-lead question ++ verdict-fields v)
+    at (Verdict.typed text) = refl
+    at (Verdict.refused n) = refl
 
 -- the stronger form, without a premise on `bin` and `lit`
 pub bodies-are-hidden : BodiesAreHidden
@@ -68,16 +79,19 @@ bodies-are-hidden first-file second-file first-place second-place files =
     let question = files .question in
     let hidden : Hidden first second (files .first-body) (files .second-body) question =
     record {
-      agree = files .agree;
-      first-links = loaded-well-formed first-file first (files .first-loaded) .links;
-      second-links = loaded-well-formed second-file second (files .second-loaded) .links;
+      supposed = files .supposed;
+      first-formed = loaded-well-formed first-file first (files .first-loaded);
+      second-formed = loaded-well-formed second-file second (files .second-loaded);
     } in
+    let first-answer = question-answered first-file first-place first question (files .first-loaded) (files .first-asked) in
+    let second-answer = question-answered second-file second-place second question (files .second-loaded) (files .second-asked) in
+    let same : verdict first question ≡ verdict second question = verdict-same first second (files .first-body) (files .second-body) question hidden in
     record {
       line = answer-line first question;
-      first-answer = answered-line first-file first-place first question (files .first-loaded) (files .first-asked);
-      second-answer =
-          answered-line second-file second-place second question (files .second-loaded) (files .second-asked)
-          ∙ ap Reply.line (sym (line-same first second (files .first-body) (files .second-body) question hidden));
+      first-line = ap line-of first-answer ∙ reply-line first question;
+      second-line =
+          ap line-of second-answer ∙ ap (λ v. line-of (reply-from (question-lead question) v)) (sym same) ∙ reply-line first question;
+      same-reply = first-answer ∙ ap (reply-from (question-lead question)) same ∙ sym second-answer;
     }
 
 -- demand 3 as document 01 words it

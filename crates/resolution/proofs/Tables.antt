@@ -36,7 +36,8 @@ extends-below {table} x t h =
 pub base-below : {table : Table} → TableOk table → (t : ℕ) → t < 6 → Below table t
 unfolding first-table
 base-below ok t h =
-    let (more, e) = ok .start in
+    let more = ok .start .more in
+    let e = ok .start .is-more in
     subst (λ (l : Table). t < length l) (sym e) (omega (arith, h))
 
 -- a type inside a row of the table is a type of the table
@@ -63,7 +64,7 @@ pub first-table-ok : TableOk first-table
 unfolding first-table table-items row-items
 first-table-ok =
     record {
-      start = ([], refl);
+      start = extends-refl first-table;
       lower = λ k t row e named. absurd (List·Memᴰ·not-nil (subst (λ ts. List·Memᴰ t ts) (first-row k row e .1) named));
       one-number = λ j k row e e′. sym (first-row j row e .0) ∙ first-row k row e′ .0;
       few-types = lit≤ tt;
@@ -85,7 +86,7 @@ module _ (table : Table) (row : TypeData) (ok : TableOk table) (inner : (t : ℕ
   unfolding has-room
   new-ok is-new room =
       record {
-        start = (ok .start .0 ++ (row ∷ []), ap (λ (l : Table). l ++ (row ∷ [])) (ok .start .1) ∙ append-assoc first-table (ok .start .0) (row ∷ []));
+        start = extends-trans (ok .start) (record { more = row ∷ []; is-more = refl });
         lower =
             λ k t r e named.
             ⊎-elim

@@ -6,6 +6,7 @@ use lib.Dec.{ltb, leb}
 use lib.ListN.{length}
 use Rattle.model.specs.Common.{Text, if_then_else_, bytes}
 use Rattle.model.specs.Records.{Question, Index}
+use Rattle.model.specs.Refusals.{refusal-text}
 use Rattle.resolution.specs.TypeData.{TypeData}
 use Rattle.resolution.specs.Types.{Table, data-of}
 use Rattle.resolution.specs.Run.{Outcome, resolve-question}
@@ -62,13 +63,9 @@ pub data Verdict : Type 0 where
 abbrev pub max-text : ℕ
 max-text = 4096
 
--- "answer buffer 4,160 bytes": each line of an accepted file fits (`line-fits`)
-abbrev pub max-answer-bytes : ℕ
-max-answer-bytes = 4160
-
 -- 10: "a text over 4,096 bytes"
 unfoldable pub text-verdict : Text → Verdict
-text-verdict text = if leb (length text) max-text then Verdict.typed text else Verdict.refused 10
+text-verdict text = if leb (length text) max-text then Verdict.typed text else Verdict.refused refusal-text
 
 unfoldable pub outcome-verdict : Outcome ℕ → Verdict
 outcome-verdict (Outcome.answered t table) = text-verdict (type-text table t)

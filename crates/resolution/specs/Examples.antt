@@ -4,6 +4,7 @@ use Prim.Native.String.{String}
 use mathlib.Core.Path.{_≡_, refl}
 use mathlib.Core.List.{List, [], _∷_, map}
 use Rattle.model.specs.Common.{tabs}
+use Rattle.format.specs.Cases.{whole}
 use Rattle.resolution.specs.Resolve.{Reply, resolve, answer}
 use Rattle.resolution.specs.Computes.{resolves}
 
@@ -21,7 +22,7 @@ Printed rows = map (λ r. resolve (tabs (r .file))) rows ≡ map (λ r. tabs (r 
 unfoldable pub rows : List Row
 rows =
     -- the whole case
-    row "index→1\nM→main\nS→-→module\nS→0→function\nT→u32\nD→0→f→3→4→0→30→fn→0→x→0\nD→1→x→5→6→5→11→param→0\nE→1→24→25→-→1→plain→-→-→ident→x\nE→1→20→21→-→-→plain→-→-→lit→-\nE→1→20→25→-→-→plain→-→-→bin→+→1→0\nQ→expr→0→2→-\nQ→expr→0→1→-\n" "expr→0→2→type→u32\nexpr→0→1→type→felt\n"
+    row whole "expr→0→2→type→u32\nexpr→0→1→type→felt\n"
     -- `1 + y` u32 (y is u32, a parameter of f)
     ∷ row "index→1\nM→m\nS→-→module\nS→0→function\nT→u32\nD→0→f→3→4→0→90→fn→0→y→0\nD→1→y→5→6→5→11→param→0\nE→1→24→25→-→1→plain→-→-→ident→y\nE→1→20→21→-→-→plain→-→-→lit→-\nE→1→20→25→-→-→plain→-→-→bin→+→1→0\nQ→expr→0→2→-\n" "expr→0→2→type→u32\n"
     -- `1 - y` error
@@ -51,7 +52,7 @@ rows =
     ∷ []
 
 pub rows-printed : Printed rows
-unfolding resolves rows
+unfolding resolves rows whole
 rows-printed = refl
 
 -- more, unmarked in document 01
@@ -74,16 +75,12 @@ more-printed = refl
 -- ------------------------------------------------------------------ one question by its number
 
 -- last, a question number that the file lacks: 5, line 0. (The whole case has two questions)
-abbrev whole-case : List Row → String
-whole-case [] = ""
-whole-case (r ∷ rs) = r .file
-
-pub one-question : map (answer (tabs (whole-case rows))) (0 ∷ 1 ∷ 2 ∷ [])
-    ≡ Reply.line (tabs "expr→0→2→type→u32\n") ∷ Reply.line (tabs "expr→0→1→type→felt\n") ∷ Reply.refused 5 0 ∷ []
-unfolding resolves rows
+pub one-question : map (answer (tabs whole)) (0 ∷ 1 ∷ 2 ∷ [])
+    ≡ Reply.typed (tabs "expr→0→2→type→u32\n") ∷ Reply.typed (tabs "expr→0→1→type→felt\n") ∷ Reply.file-refused 5 0 ∷ []
+unfolding resolves whole
 one-question = refl
 
 -- a file that loading refuses has no question
-pub no-question : map (answer (tabs "index→1\nM→m\n")) (0 ∷ 9 ∷ []) ≡ Reply.refused 5 2 ∷ Reply.refused 5 2 ∷ []
+pub no-question : map (answer (tabs "index→1\nM→m\n")) (0 ∷ 9 ∷ []) ≡ Reply.file-refused 5 2 ∷ Reply.file-refused 5 2 ∷ []
 unfolding resolves
 no-question = refl

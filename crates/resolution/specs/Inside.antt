@@ -59,7 +59,7 @@ module _ (index : Index) (body : Body) where
     type-names : {m t u : ℕ} {type : TypeExpr} → OutsideType question m t → type-in index m t ≡ some type → List·Memᴰ u (type-types type) → OutsideType question m u
     question-names : {m t : ℕ} → m ≡ question-module question → List·Memᴰ t (question-types question) → OutsideType question m t
 
-  -- no link of an outside record leads inside. (An outside scope's parent and an outside record's scope are outside as it stands)
+  -- Demand 3: "nothing outside links inside". (An outside scope's parent and an outside record's scope are outside as it stands)
   pub record NothingLinksInside : Type 0 where
     pub definition-to-expression : (m d e : ℕ) (outside : OutsideDefinition m d) → List·Memᴰ e (definition-expressions (outside .definition .kind))
         → (expression : ExpressionInfo) → expression-in index m e ≡ some expression → Inside m (expression .scope) → ⊥

@@ -3,6 +3,7 @@
 use Prim.Native.Nat.{ℕ}
 use mathlib.Core.Bool.{Bool, true, false}
 use mathlib.Core.Option.{Option, none, some}
+use Rattle.model.specs.Refusals.{refusal-child}
 use Rattle.resolution.specs.TypeData.{TypeData}
 use Rattle.resolution.specs.Types.{Table, data-of}
 
@@ -21,7 +22,7 @@ pub data Demand : Type 0 where
   signature : ℕ → ℕ → Demand
 
 -- what a demand answers: the number of a type. A finished struct or signature is its struct or function type; `none` is the Rust's `None`,
--- for a definition of another kind
+-- for a definition of another kind and for an absent one
 abbrev pub Answer : Demand → Type 0
 Answer (Demand.type m t s) = ℕ
 Answer (Demand.definition m d) = ℕ
@@ -64,7 +65,7 @@ let-some (some a) p f = f a
 
 -- 6: a missing child where the Rust unwraps
 abbrev pub missing-child : {A : Type 0} → Program A
-missing-child = refuse 6
+missing-child = refuse refusal-child
 
 -- `TypeId::new(db, row)`
 abbrev pub type-id-new : TypeData → Program ℕ

@@ -2,10 +2,12 @@
 -- Assumes nothing.
 use Prim.Native.Nat.{ℕ}
 use mathlib.Core.List.{_++_}
+use mathlib.Core.Option.{Option, none, some}
 use lib.ListN.{getElem?}
 use Rattle.model.specs.Common.{Text, bytes, let-some}
+use Rattle.model.specs.Refusals.{refusal-link}
 use Rattle.format.specs.Load.{Loading, load}
-use Rattle.resolution.specs.Answer.{decimal, answer-line, answers}
+use Rattle.resolution.specs.Answer.{decimal, Verdict, verdict, question-lead, verdict-fields, answers}
 
 -- "A refused file gives one line: `refused`, number, line (from 1)"
 unfoldable pub refusal-line : ℕ → ℕ → Text
@@ -19,16 +21,29 @@ printed (Loading.refused number line) = refusal-line number line
 unfoldable pub resolve : Text → Text
 resolve file = printed (load file)
 
--- the answer line of one question, or the refusal of the file, with its number and its line
+-- what one question is answered: the line of a type, which the answer buffer then holds; refusal 6 to 10 with the line that is printed for it,
+-- where the answer buffer is unchanged; or the refusal of the whole file, with its number and its line
 pub data Reply : Type 0 where
-  line : Text → Reply
-  refused : ℕ → ℕ → Reply
+  typed : Text → Reply
+  question-refused : ℕ → Text → Reply
+  file-refused : ℕ → ℕ → Reply
+
+-- the answer line that is printed, where the file is accepted and has the question
+unfoldable pub line-of : Reply → Option Text
+line-of (Reply.typed line) = some line
+line-of (Reply.question-refused number line) = some line
+line-of (Reply.file-refused number at-line) = none
+
+unfoldable pub reply-from : Text → Verdict → Reply
+reply-from lead (Verdict.typed text) = Reply.typed (lead ++ verdict-fields (Verdict.typed text))
+reply-from lead (Verdict.refused number) = Reply.question-refused number (lead ++ verdict-fields (Verdict.refused number))
 
 -- the question of that number; "last a question number the file lacks (5, line 0)"
 unfoldable pub ask-loaded : Loading → ℕ → Reply
 ask-loaded (Loading.accepted index) number =
-    let-some (getElem? (index .questions) number) (Reply.refused 5 0) λ question. Reply.line (answer-line index question)
-ask-loaded (Loading.refused refusal at-line) number = Reply.refused refusal at-line
+    let-some (getElem? (index .questions) number) (Reply.file-refused refusal-link 0) λ question.
+    reply-from (question-lead question) (verdict index question)
+ask-loaded (Loading.refused refusal at-line) number = Reply.file-refused refusal at-line
 
 unfoldable pub answer : Text → ℕ → Reply
 answer file number = ask-loaded (load file) number

@@ -6,6 +6,8 @@ use mathlib.Core.Option.{none, some}
 use lib.ListN.{length}
 use Rattle.model.specs.Common.{if_then_else_, let-some, any, eq-numbers}
 use Rattle.model.specs.Records.{Question, Index}
+use Rattle.model.specs.Limits.{max-open-demands}
+use Rattle.model.specs.Refusals.{refusal-open, refusal-depth, refusal-types}
 use Rattle.resolution.specs.TypeData.{TypeData}
 use Rattle.resolution.specs.Types.{Table, first-table, find-type, has-room}
 use Rattle.resolution.specs.Programs.{Demand, Answer, Program, done, refuse, ask, enter, look}
@@ -16,7 +18,7 @@ pub data Outcome (A : Type 0) : Type 0 where
   answered : A → Table → Outcome A
   refused : ℕ → Outcome A
 
--- go on after an answer; "the first of 6 to 9 ends it"
+-- go on after an answer; "the first of 6 to 9 in the Rust's order of evaluation ends it"
 unfoldable pub go-on : {A B : Type 0} → Outcome A → (A → Table → Outcome B) → Outcome B
 go-on (answered a table) f = f a table
 go-on (refused n) f = refused n
@@ -26,7 +28,7 @@ unfoldable pub enter-type : TypeData → Table → Outcome ℕ
 enter-type row table =
     let-some
     (find-type table row)
-    (if has-room table row then answered (length table) (table ++ (row ∷ [])) else refused 9)
+    (if has-room table row then answered (length table) (table ++ (row ∷ [])) else refused refusal-types)
     λ t. answered t table
 
 -- a program, where `handler` answers its demands
@@ -58,15 +60,12 @@ is-open open-demands d = any (eq-demand d) open-demands
 -- A demand with so many free places, the index, and the open demands, last opened first.
 -- 7: "the demand is already open"; 8: "it would be the 257th open"; 7 before 8
 unfoldable pub demand : ℕ → Index → List Demand → (d : Demand) → Table → Outcome (Answer d)
-demand zero index open-demands d table = elim (is-open open-demands d) [ true ↦ refused 7 | false ↦ refused 8 ]
+demand zero index open-demands d table = elim (is-open open-demands d) [ true ↦ refused refusal-open | false ↦ refused refusal-depth ]
 demand (suc free) index open-demands d table =
     elim (is-open open-demands d) [
-      | true ↦ refused 7
+      | true ↦ refused refusal-open
       | false ↦ run (λ d′. demand free index (d ∷ open-demands) d′) (program index d) table
     ]
-
-abbrev pub max-open-demands : ℕ
-max-open-demands = 256
 
 -- ------------------------------------------------------------------ questions
 

@@ -10,7 +10,7 @@ use Rattle.model.specs.Records.{Name, TypeExpr, BinaryOp, Expression, Expressio
 use Rattle.model.specs.Links.{module-name, scope-in, type-in, definition-in, expression-in, link}
 use Rattle.format.specs.Load.{accepted, load}
 use Rattle.resolution.specs.Inside.{Body, IsBody, Inside, OutsideScope, OutsideDefinition, OutsideExpression, OutsideType, NothingLinksInside, AboutOutside}
-use Rattle.resolution.specs.Resolve.{Reply, answer}
+use Rattle.resolution.specs.Resolve.{line-of, answer}
 
 -- ------------------------------------------------------------------ agreement
 
@@ -26,23 +26,27 @@ pub record StandsIn (first : Index) (first-body : Body) (second : Index) (second
   pub expressions : (m e : ℕ) (outside : OutsideExpression first first-body m e)
       → (expression-in second m e ≡ some (outside .expression)) × (Inside second second-body m (outside .expression .scope) → ⊥)
 
--- what demand 3 supposes of two indexes, a body in each, and a question: "Two agree if each record outside in either stands in the other";
--- "two indexes that agree have one version"
+-- "Two agree if each record outside in either stands in the other, outside too"; "two indexes that agree have one version"
 pub record Agree (first second : Index) (first-body second-body : Body) (question : Question) : Type 0 where
   pub one-version : first .version ≡ second .version
-  pub first-is-body : IsBody first first-body
-  pub second-is-body : IsBody second second-body
-  pub first-no-links : NothingLinksInside first first-body
-  pub second-no-links : NothingLinksInside second second-body
   pub first-stands : StandsIn first first-body second second-body question
   pub second-stands : StandsIn second second-body first first-body question
+
+-- What demand 3 supposes of two indexes, a body in each, and a question: they agree outside the bodies, "nothing outside links inside", and the
+-- question is about the outside
+pub record Supposed (first second : Index) (first-body second-body : Body) (question : Question) : Type 0 where
+  pub first-is-body : IsBody first first-body
+  pub second-is-body : IsBody second second-body
+  pub agree : Agree first second first-body second-body question
+  pub first-no-links : NothingLinksInside first first-body
+  pub second-no-links : NothingLinksInside second second-body
   pub first-about : AboutOutside first first-body question
   pub second-about : AboutOutside second second-body question
 
 -- ------------------------------------------------------------------ files
 
--- "An index is accepted if loading it ends in no refusal"
-pub record FilesAgree (first-file second-file : Text) (first-place second-place : ℕ) : Type 0 where
+-- the same of two files and a question's place in each. "An index is accepted if loading it ends in no refusal"
+pub record FilesSupposed (first-file second-file : Text) (first-place second-place : ℕ) : Type 0 where
   pub first : Index
   pub second : Index
   pub first-loaded : load first-file ≡ accepted first
@@ -52,19 +56,20 @@ pub record FilesAgree (first-file second-file : Text) (first-place second-place 
   pub second-asked : getElem? (second .questions) second-place ≡ some question
   pub first-body : Body
   pub second-body : Body
-  pub agree : Agree first second first-body second-body question
+  pub supposed : Supposed first second first-body second-body question
 
--- both questions are answered, by the same line
+-- both questions are answered, by the same line and, where that is a refusal, by the same number
 pub record SameLine (first-file second-file : Text) (first-place second-place : ℕ) : Type 0 where
   pub line : Text
-  pub first-answer : answer first-file first-place ≡ Reply.line line
-  pub second-answer : answer second-file second-place ≡ Reply.line line
+  pub first-line : line-of (answer first-file first-place) ≡ some line
+  pub second-line : line-of (answer second-file second-place) ≡ some line
+  pub same-reply : answer first-file first-place ≡ answer second-file second-place
 
 -- "It may have different places among the Q of the two; compared is its answer line, every byte"
 abbrev pub BodiesAreHidden : Type 0
 BodiesAreHidden =
     (first-file second-file : Text) (first-place second-place : ℕ)
-    → FilesAgree first-file second-file first-place second-place → SameLine first-file second-file first-place second-place
+    → FilesSupposed first-file second-file first-place second-place → SameLine first-file second-file first-place second-place
 
 -- ------------------------------------------------------------------ as document 01 words it
 
@@ -75,8 +80,8 @@ NoOutsideLiteralInBinary index body =
     → (op : BinaryOp) (left right : Option ℕ) → inside .node ≡ Expression.Binary op left right → List·Memᴰ operand (link left ++ link right)
     → (outside : OutsideExpression index body m operand) (suffix : Option Name) → outside .expression .node ≡ Expression.Literal suffix → ⊥
 
-pub record FilesAgreeAsWorded (first-file second-file : Text) (first-place second-place : ℕ) : Type 0 where
-  pub files : FilesAgree first-file second-file first-place second-place
+pub record FilesSupposedAsWorded (first-file second-file : Text) (first-place second-place : ℕ) : Type 0 where
+  pub files : FilesSupposed first-file second-file first-place second-place
   pub first-no-literal : NoOutsideLiteralInBinary (files .first) (files .first-body)
   pub second-no-literal : NoOutsideLiteralInBinary (files .second) (files .second-body)
 
@@ -84,4 +89,4 @@ pub record FilesAgreeAsWorded (first-file second-file : Text) (first-place secon
 abbrev pub DemandThree : Type 0
 DemandThree =
     (first-file second-file : Text) (first-place second-place : ℕ)
-    → FilesAgreeAsWorded first-file second-file first-place second-place → SameLine first-file second-file first-place second-place
+    → FilesSupposedAsWorded first-file second-file first-place second-place → SameLine first-file second-file first-place second-place

@@ -23,19 +23,19 @@ row-types (TypeData.FixedArray t size) = t ∷ []
 row-types (TypeData.Struct m d fields) = map (λ field. field .type) fields
 row-types (TypeData.Function m d params t) = t ∷ params
 
+-- a later table of the same question
+pub record Extends (table after : Table) : Type 0 where
+  pub more : Table
+  pub is-more : after ≡ table ++ more
+
 pub record TableOk (table : Table) : Type 0 where
-  pub start : (more : Table) × (table ≡ first-table ++ more)
+  pub start : Extends first-table table
   -- an element's number is below its holder's
   pub lower : (k t : ℕ) (row : TypeData) → getElem? table k ≡ some row → List·Memᴰ t (row-types row) → t < k
   -- equal types one number
   pub one-number : (j k : ℕ) (row : TypeData) → getElem? table j ≡ some row → getElem? table k ≡ some row → j ≡ k
   pub few-types : length table ≤ max-types
   pub few-items : table-items table ≤ max-type-items
-
--- a later table of the same question
-pub record Extends (table after : Table) : Type 0 where
-  pub more : Table
-  pub is-more : after ≡ table ++ more
 
 -- the number of a type of the table
 abbrev pub Below : Table → ℕ → Type 0

@@ -37,12 +37,18 @@ resolve-all m s (t ∷ ts) = do
   ns ← resolve-all m s ts
   done (n ∷ ns)
 
+-- a child that is there, for its demand alone: `let _ = expression_semantic_type(..)`
+unfoldable pub infer-only : ℕ → Option ℕ → Option ℕ → Program (Unit {0})
+infer-only m child context =
+    let-some child (done tt) λ child-id. do
+      expression-semantic-type m child-id context
+      done tt
+
 -- each argument of a call that is there, with its parameter as context; the first stands at the index
 unfoldable pub infer-arguments : ℕ → List ℕ → ℕ → List (Option ℕ) → Program (Unit {0})
 infer-arguments m params index [] = done tt
-infer-arguments m params index (none ∷ args) = infer-arguments m params (suc index) args
-infer-arguments m params index (some arg ∷ args) = do
-  expression-semantic-type m arg (getElem? params index)
+infer-arguments m params index (arg ∷ args) = do
+  infer-only m arg (getElem? params index)
   infer-arguments m params (suc index) args
 
 -- each element of a tuple that is there, with its context; the first stands at the index
@@ -67,7 +73,8 @@ all-same-type m element-type (some element ∷ elements) = do
 
 -- m is the module's number; s is `context_scope_id`
 module _ (m : ℕ) (the-module : Module) (s : ℕ) where
-  -- "A custom name must lead to a struct in the first scope that has the name; else error"
+  -- "A custom name must lead to a struct in the first scope that has the name; else error": the TYPE of what is found must be a struct, so it
+  -- may be a parameter, a let, a const or a `use` too
   unfoldable pub custom-type : Name → Program ℕ
   custom-type name =
       let-some (latest-definition-index-by-name-in-chain the-module s name) (done error) λ d. do
@@ -215,7 +222,7 @@ assignment-context m node lhs =
       done (some t))
     else done none
 
--- "`arg` and `field` see through no `use`"
+-- "`arg` and `field` see through no `use`". Whatever definition the callee records, its signature is demanded
 unfoldable pub argument-context : ℕ → Module → ℕ → ℕ → Program (Option ℕ)
 argument-context m the-module callee index =
     let-some (expression-at the-module callee) (done none) λ callee-info.
@@ -231,6 +238,7 @@ return-context m the-module s =
       signature ← function-semantic-signature m d
       signature-return-type signature
 
+-- "`arg` and `field` see through no `use`". The field's T is resolved in the literal's scope
 unfoldable pub field-context : ℕ → Module → ℕ → Name → Program (Option ℕ)
 field-context m the-module parent field =
     let-some (expression-at the-module parent) (done none) λ parent-info.
@@ -241,8 +249,8 @@ field-context m the-module parent field =
     λ d.
     let-some (definition-at the-module d) (done none) λ definition.
     let-some (struct-field (definition .kind) field) (done none) λ t. do
-      field-type ← resolve-ast-type m t (parent-info .scope)
-      done (some field-type)
+      type ← resolve-ast-type m t (parent-info .scope)
+      done (some type)
 
 unfoldable pub context-from-origin : ℕ → Module → ExpressionInfo → Origin → Program (Option ℕ)
 context-from-origin m the-module expr-info Origin.Plain = done none
@@ -295,7 +303,7 @@ identifier-type m the-module expr-info name =
 
 unfoldable pub new-type : ℕ → ℕ → ℕ → Option ℕ → Program ℕ
 new-type m s t count = do
-  let-some count (done felt) λ count-id. expression-semantic-type m count-id (some felt)
+  infer-only m count (some felt)
   element ← resolve-ast-type m t s
   type-id-new (TypeData.Pointer element)
 
@@ -350,7 +358,7 @@ unfoldable pub index-type : ℕ → Option ℕ → Option ℕ → Program ℕ
 index-type m array index =
     let-some array (done error) λ array-id. do
       array-type ← expression-semantic-type m array-id none
-      let-some index (done felt) λ index-id. expression-semantic-type m index-id (some felt)
+      infer-only m index (some felt)
       row ← type-data array-type
       let-some (as-array row) (let-some (as-pointer row) (done error) done) λ element. done (element .element)
 
@@ -362,8 +370,8 @@ tuple-type m context elements = look λ table. do
 unfoldable pub tuple-index-type : ℕ → Option ℕ → ℕ → Program ℕ
 tuple-index-type m tuple index =
     let-some tuple missing-child λ tuple-id. do
-      tuple-type ← expression-semantic-type m tuple-id none
-      row ← type-data tuple-type
+      tuple-ty ← expression-semantic-type m tuple-id none
+      row ← type-data tuple-ty
       let-some (as-tuple row) (done error) λ elements. let-some (getElem? elements index) (done error) done
 
 -- an empty array without an array as context: its expected T, if that is an array of size 0

@@ -6,8 +6,8 @@ use mathlib.Core.Option.{Option, none, some}
 use lib.Dec.{eqb, leb, ltb}
 use lib.ListN.{length, getD}
 use Rattle.model.specs.Common.{if_then_else_, first, eq-numbers}
-use Rattle.model.specs.Records.{Name}
-use Rattle.resolution.specs.TypeData.{TypedField, TypeData}
+use Rattle.model.specs.Records.{Name, NameWithType}
+use Rattle.resolution.specs.TypeData.{TypeData}
 
 -- ------------------------------------------------------------------ equal types
 
@@ -65,10 +65,10 @@ eq-type a b =
 
 -- `TypeData::U32 | TypeData::Felt`
 unfoldable pub is-u32-or-felt : TypeData → Bool
-is-u32-or-felt row = eqb (kind-number row) 2 || eqb (kind-number row) 0
+is-u32-or-felt row = eqb (kind-number row) (kind-number TypeData.U32) || eqb (kind-number row) (kind-number TypeData.Felt)
 
 unfoldable pub is-error-or-unknown : TypeData → Bool
-is-error-or-unknown row = eqb (kind-number row) 4 || eqb (kind-number row) 3
+is-error-or-unknown row = eqb (kind-number row) (kind-number TypeData.Error) || eqb (kind-number row) (kind-number TypeData.Unknown)
 
 -- the elements of a tuple
 unfoldable pub as-tuple : TypeData → Option (List ℕ)
@@ -114,7 +114,7 @@ as-array (TypeData.Struct m d fields) = none
 as-array (TypeData.Function m d params t) = none
 
 -- the fields of a struct
-unfoldable pub as-struct : TypeData → Option (List TypedField)
+unfoldable pub as-struct : TypeData → Option (List NameWithType)
 as-struct TypeData.Felt = none
 as-struct TypeData.Bool = none
 as-struct TypeData.U32 = none
@@ -143,8 +143,9 @@ as-function (TypeData.FixedArray t size) = none
 as-function (TypeData.Struct m d fields) = none
 as-function (TypeData.Function m d params t) = some (record { params = params; return-type = t })
 
--- `field_type`: the type of the first field of the name
-unfoldable pub field-type : List TypedField → Name → Option ℕ
+-- the type of the first field of the name: `field_type` of a struct type, where the number is a row's, and `fields_ast.iter().find(..)` of a
+-- struct definition, where it is a T's
+unfoldable pub field-type : List NameWithType → Name → Option ℕ
 field-type [] name = none
 field-type (field ∷ fields) name = if eq-numbers (field .name) name then some (field .type) else field-type fields name
 
@@ -182,7 +183,7 @@ first-table =
 unfoldable pub data-of : Table → ℕ → TypeData
 data-of table t = getD table t TypeData.Error
 
--- the items that a row holds: "tuples, fields and parameters (once for each tuple, struct and function type)"
+-- the "items held for tuples, fields and parameters (once for each tuple, struct and function type; ..)"
 unfoldable pub row-items : TypeData → ℕ
 row-items TypeData.Felt = 0
 row-items TypeData.Bool = 0

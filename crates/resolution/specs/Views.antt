@@ -8,8 +8,7 @@ use lib.ListN.{length, getElem?}
 use Rattle.model.specs.Common.{if_then_else_, let-some, eq-numbers, bytes}
 use Rattle.model.specs.Records.{Name, TypeExpr, NameWithType, DefinitionKind, BinaryOp, Expression, Module}
 use Rattle.model.specs.Lookups.{type-expr-at, expression-at, is-builtin-function-name}
-use Rattle.resolution.specs.TypeData.{TypedField}
-use Rattle.resolution.specs.Types.{Table, is-u32-or-felt, as-tuple, as-array, data-of, felt, u32, error}
+use Rattle.resolution.specs.Types.{Table, field-type, is-u32-or-felt, as-tuple, as-array, data-of, felt, u32, error}
 use Rattle.resolution.specs.Compatible.{is-commutative}
 
 -- ------------------------------------------------------------------ what a record is
@@ -88,15 +87,10 @@ as-struct-literal (Expression.Cast t) = none
 as-struct-literal (Expression.New t count) = none
 as-struct-literal (Expression.Parenthesized inner) = none
 
--- the t of the first of the names
-unfoldable pub find-type-expr : List NameWithType → Name → Option ℕ
-find-type-expr [] name = none
-find-type-expr (field ∷ fields) name = if eq-numbers (field .name) name then some (field .type) else find-type-expr fields name
-
 -- the t of a struct definition's field
 unfoldable pub struct-field : DefinitionKind → Name → Option ℕ
 struct-field (DefinitionKind.Function t params) name = none
-struct-field (DefinitionKind.Struct fields) name = find-type-expr fields name
+struct-field (DefinitionKind.Struct fields) name = field-type fields name
 struct-field (DefinitionKind.Const t e) name = none
 struct-field (DefinitionKind.Let t e v path) name = none
 struct-field (DefinitionKind.Parameter t) name = none
@@ -104,7 +98,7 @@ struct-field (DefinitionKind.Use m item) name = none
 struct-field DefinitionKind.LoopVariable name = none
 
 -- the fields of a struct, each with the number of its type
-unfoldable pub typed-fields : List NameWithType → List ℕ → List TypedField
+unfoldable pub typed-fields : List NameWithType → List ℕ → List NameWithType
 typed-fields [] ts = []
 typed-fields (field ∷ fields) [] = []
 typed-fields (field ∷ fields) (t ∷ ts) = record { name = field .name; type = t } ∷ typed-fields fields ts
@@ -118,7 +112,8 @@ unfoldable pub operand-is-unsuffixed-literal : Module → ℕ → Bool
 operand-is-unsuffixed-literal the-module e =
     let-some (expression-at the-module e) false λ operand. is-unsuffixed-literal (operand .node)
 
--- the right operand is typed first, and is the left one's context: "literal - if so, we want to infer its type from the other operand"
+-- the right operand is typed first, and its type is the left one's context. The Rust, of commutative operators: "check if either operand is a
+-- literal - if so, we want to infer its type from the other operand"
 unfoldable pub right-first : Module → BinaryOp → ℕ → ℕ → Bool
 right-first the-module op left-id right-id =
     is-commutative op
