@@ -1,14 +1,14 @@
 #!/usr/bin/env python3
 """Holds the definition against another program's answers, from the bytes of an index file to the bytes that are printed for it.
 
-usage: definition_check.py [--repository DIR] [--batch N] PAIRS ..
-       definition_check.py --write-crate DIR PAIRS ..
+usage: definition_check.py [--repository DIR] [--batch N] [--bytes N] PAIRS ..
+       definition_check.py --write-crate DIR [--names FILE] PAIRS ..
 
-PAIRS are folders with pairs of files NAME.index (an index file) and NAME.printed (what the other program printed for it), or single
-.index files beside their .printed. For each pair there is a theorem by computation, `resolve FILE ≡ PRINTED`, proved by `refl`. The
-theorems are written into a crate beside a copy of the repository's crates, in a temporary folder, and `rt check` judges them.
-Says `N files, all equal`, or names each file that differs.
-With --write-crate the crate folder is written and nothing is checked.
+PAIRS are folders with pairs of files NAME.index (an index file) and NAME.printed (what the other program printed for it), single .index
+files beside their .printed, or files of vectors (.txt, framed as rust/vectors/README.md says). For each pair there is a theorem by
+computation, `resolve FILE ≡ PRINTED`, proved by `refl`. The theorems are written into a crate beside a copy of the repository's crates, in
+a temporary folder, and `rt check` judges them. Says `N files, all equal`, or names each file that differs.
+With --write-crate the crate folder is written and nothing is checked. With --names only the vectors that FILE names are taken, one a line.
 
 Exit status: 0 all equal; 1 some file differs; 2 nothing can be said (no pairs, a definition that is not proved, a check that broke off).
 """
@@ -71,13 +71,38 @@ def read_pair(path):
     return Pair(name, read_bytes(path), read_bytes(stem + '.printed'))
 
 
+def read_vectors(path):
+    """The vectors of a file: a head `vector NAME INDEX-BYTES ANSWER-BYTES`, then the bytes of index and answer."""
+    content, at = read_bytes(path), 0
+    while at < len(content):
+        head = re.compile(rb'vector ([^ \n]+) (\d+) (\d+)\n').match(content, at)
+        if not head:
+            raise Unsaid('%s: there is no vector at byte %d' % (path, at))
+        printed = head.end() + int(head[2])
+        at = printed + int(head[3])
+        yield Pair(head[1].decode().lower().replace('_', '-'), content[head.end():printed], content[printed:at])
+
+
 def by_number(name):
     """Orders names with the numbers in them by size."""
     return [(int(part), '') if part.isdigit() else (-1, part) for part in re.split('([0-9]+)', name)]
 
 
-def read_pairs(paths):
-    pairs = [read_pair(path) for argument in paths for path in index_files(argument)]
+def named(vectors, path):
+    """The vectors that a list names."""
+    names = read_bytes(path).decode().split()
+    found = {vector.name: vector for vector in vectors}
+    lacking = [name for name in names if name not in found]
+    if lacking:
+        raise Unsaid('%s: there is no vector %s' % (path, lacking[0]))
+    return [found[name] for name in names]
+
+
+def read_pairs(options):
+    pairs = [read_pair(path) for argument in options.pairs if not argument.endswith('.txt') for path in index_files(argument)]
+    vectors = [vector for argument in options.pairs if argument.endswith('.txt') for vector in read_vectors(argument)]
+    pairs += named(vectors, options.names) if options.names else vectors
+    pairs = [pair for pair in pairs if len(pair.index) <= options.bytes]
     names = collections.Counter(pair.name for pair in pairs)
     twice = [name for name in names if names[name] > 1]
     if twice or not pairs:
@@ -217,9 +242,9 @@ def reason(said):
 
 def split(pairs, said):
     """Two parts of a refused batch: the files that the checker named and the rest, or else two halves."""
-    named = [pair for pair in pairs if '`%s-printed`' % pair.name in said]
-    rest = [pair for pair in pairs if pair not in named]
-    return (named, rest) if named and rest else (pairs[:len(pairs) // 2], pairs[len(pairs) // 2:])
+    refused = [pair for pair in pairs if '`%s-printed`' % pair.name in said]
+    rest = [pair for pair in pairs if pair not in refused]
+    return (refused, rest) if refused and rest else (pairs[:len(pairs) // 2], pairs[len(pairs) // 2:])
 
 
 def differing(folder, pairs, seconds):
@@ -268,6 +293,8 @@ def options_of(arguments):
     parser.add_argument('pairs', nargs='+', metavar='PAIRS')
     parser.add_argument('--repository', default=os.path.dirname(os.path.dirname(os.path.abspath(__file__))))
     parser.add_argument('--write-crate', metavar='DIR')
+    parser.add_argument('--names', metavar='FILE')
+    parser.add_argument('--bytes', type=int, default=32768, metavar='N', help='larger files are left out; one of 65,536 bytes takes 3 GB')
     parser.add_argument('--batch', type=int, default=BATCH_FILES, metavar='N', help='files in one check at most')
     parser.add_argument('--seconds', type=int, default=600, metavar='N', help='time of one check at most')
     return parser.parse_args(arguments)
@@ -275,7 +302,7 @@ def options_of(arguments):
 
 def main(arguments):
     options = options_of(arguments)
-    pairs = read_pairs(options.pairs)
+    pairs = read_pairs(options)
     if options.write_crate:
         write_crate(options.write_crate, modules_of(pairs, by_line=True))
         print('%d files written' % len(pairs))

@@ -1,12 +1,11 @@
 #!/usr/bin/env python3
-"""Writes index files and what the oracle prints for them, as pairs NAME.index and NAME.printed for definition_check.py.
+"""Writes random index files and what the oracle prints for them, as pairs NAME.index and NAME.printed for definition_check.py.
 
-usage: oracle_files.py TYPETOOL OUT [--records N] [--programs N] [--damaged N] [--first-seed S] ..
-       oracle_files.py TYPETOOL OUT --names FILE
+usage: oracle_files.py TYPETOOL OUT [--records N] [--programs N] [--damaged N] [--first-seed S] [--random-only]
 
-TYPETOOL is the oracle's program. A file's NAME is its kind and its number: `TYPETOOL gen KIND NUMBER` writes it, `TYPETOOL oracle` answers it.
-The fixed files (kind `edges`) are taken once each, and a file of the kind `bytes` for every byte. The other kinds are tried at the numbers
-S, S+1, .. until enough files are small enough to compute. With --names the files are those that FILE names, one a line.
+TYPETOOL is the oracle's program (rust/target/debug/typetool). A file's NAME is its kind and its number: `TYPETOOL gen KIND NUMBER` writes
+it, `TYPETOOL oracle` answers it. Each kind is tried at the numbers S, S+1, .. until enough files are small enough to compute. Beside them
+stands, unless --random-only is given, a file of the kind `bytes` for every byte.
 The same arguments always give the same files. The lines that are printed say how many files, questions and refusals of each kind there are.
 """
 import argparse
@@ -14,9 +13,6 @@ import collections
 import os
 import subprocess
 import sys
-
-# The generator picks one of some seventy fixed files by the number: among so many numbers each is met.
-EDGE_NUMBERS = 1000
 
 
 def output_of(command, given=b''):
@@ -35,17 +31,6 @@ def printed_for(options, index):
     """The oracle's lines, or None if it gives up a question."""
     printed = output_of([options.typetool, 'oracle', '--budget', str(options.budget)], index)
     return None if b'budget' in printed else printed
-
-
-def edge_files(options):
-    """Each fixed file, under the first number that gives it."""
-    found = {}
-    for number in range(EDGE_NUMBERS):
-        found.setdefault(index_file(options, 'edges', number), number)
-    for index, number in found.items():
-        printed = printed_for(options, index)
-        if len(index) <= options.edge_bytes and printed is not None:
-            yield number, index, printed
 
 
 def byte_files(options):
@@ -68,21 +53,7 @@ def random_files(options, kind, count):
         number += 1
 
 
-def named_files(options, kind):
-    """The files of a kind that are named in the list."""
-    with open(options.names) as f:
-        names = [line.strip().split('-') for line in f if line.strip()]
-    for name in names:
-        if name[0] == kind:
-            index = index_file(options, kind, int(name[1]))
-            yield int(name[1]), index, printed_for(options, index)
-
-
 def files_of(options, kind):
-    if options.names:
-        return named_files(options, kind)
-    if kind == 'edges':
-        return [] if options.random_only else edge_files(options)
     if kind == 'bytes':
         return [] if options.random_only else byte_files(options)
     return random_files(options, kind, getattr(options, kind))
@@ -117,8 +88,7 @@ def options_of():
     parser = argparse.ArgumentParser(description=__doc__, formatter_class=argparse.RawDescriptionHelpFormatter)
     parser.add_argument('typetool')
     parser.add_argument('out')
-    parser.add_argument('--names', metavar='FILE')
-    parser.add_argument('--random-only', action='store_true', help='no fixed files')
+    parser.add_argument('--random-only', action='store_true', help='no files of the kind bytes')
     parser.add_argument('--records', type=int, default=80)
     parser.add_argument('--programs', type=int, default=40)
     parser.add_argument('--damaged', type=int, default=340)
@@ -126,7 +96,6 @@ def options_of():
     parser.add_argument('--bytes', type=int, default=6144, help='a file of at most so many bytes is small')
     parser.add_argument('--larger', type=int, default=3, help='larger files that are taken of each random kind')
     parser.add_argument('--larger-bytes', type=int, default=16384, help='their size at most')
-    parser.add_argument('--edge-bytes', type=int, default=32768, help='the size of a fixed file at most; one of 65,536 bytes takes 3 GB to compute')
     parser.add_argument('--budget', type=int, default=20000, help='demands that a question may take')
     return parser.parse_args()
 
@@ -136,7 +105,7 @@ def main():
     os.makedirs(options.out, exist_ok=True)
     if os.listdir(options.out):
         sys.exit('the folder %s is not empty' % options.out)
-    for kind in ('edges', 'bytes', 'records', 'programs', 'damaged'):
+    for kind in ('bytes', 'records', 'programs', 'damaged'):
         write_kind(options, kind)
 
 

@@ -1,12 +1,21 @@
 -- Index files and what the oracle printed for them. Written by definition_check.py.
 pub mod Ascii
-pub mod Bytes1
+pub mod Corner1
+pub mod Corner2
+pub mod Corner3
 pub mod Damaged1
-pub mod Damaged2
 pub mod Docs1
 pub mod Docs2
-pub mod Edges1
-pub mod Edges2
-pub mod Edges3
+pub mod Limit1
+pub mod Limit2
+pub mod Limit3
+pub mod Program1
 pub mod Programs1
 pub mod Records1
+pub mod Row1
+pub mod Row2
+pub mod Row3
+pub mod Wrong1
+pub mod Wrong2
+pub mod Wrong3
+pub mod Wrong4

@@ -1,0 +1,132 @@
+//! Cairo-M source text to `SemanticIndex`es, by the original parser and index builder.
+
+use std::collections::HashMap;
+use std::fmt;
+use std::path::PathBuf;
+
+use cairo_m_compiler_diagnostics::Diagnostic;
+use cairo_m_compiler_semantic as semantic;
+use index_file::records::Index;
+use semantic::db::project_parse_diagnostics;
+use semantic::{Crate, File, SemanticDatabaseImpl, SemanticIndex};
+
+use crate::{ExportError, ModuleIndex, all_questions, records};
+
+/// One module.
+#[derive(Debug, Clone)]
+pub struct Source {
+    pub module: String,
+    pub path: String,
+    pub text: String,
+}
+
+#[derive(Debug, Clone, PartialEq, Eq)]
+pub enum SourceError {
+    /// What the parser or the index builder complained about, in the order of the sources.
+    Messages(Vec<Message>),
+    Export(ExportError),
+}
+
+/// A complaint about a place in a source, or about the project as a whole.
+#[derive(Debug, Clone, PartialEq, Eq, PartialOrd, Ord)]
+pub struct Message {
+    /// Which of the sources; after all of them for the project as a whole.
+    source: usize,
+    /// Path, line and column, from 1.
+    pub place: Option<(String, usize, usize)>,
+    pub text: String,
+}
+
+impl fmt::Display for Message {
+    fn fmt(&self, f: &mut fmt::Formatter<'_>) -> fmt::Result {
+        match &self.place {
+            Some((path, line, column)) => write!(f, "{path}:{line}:{column}: {}", self.text),
+            None => write!(f, "{}", self.text),
+        }
+    }
+}
+
+impl fmt::Display for SourceError {
+    fn fmt(&self, f: &mut fmt::Formatter<'_>) -> fmt::Result {
+        match self {
+            Self::Messages(messages) => {
+                let lines: Vec<String> = messages.iter().map(Message::to_string).collect();
+                write!(f, "{}", lines.join("\n"))
+            }
+            Self::Export(error) => write!(f, "{error}"),
+        }
+    }
+}
+
+impl std::error::Error for SourceError {}
+
+impl From<ExportError> for SourceError {
+    fn from(error: ExportError) -> Self {
+        Self::Export(error)
+    }
+}
+
+/// What the original builder makes of each source, in their order.
+pub fn semantic_indexes(sources: &[Source]) -> Result<Vec<SemanticIndex>, SourceError> {
+    let db = SemanticDatabaseImpl::default();
+    let mut modules = HashMap::new();
+    for source in sources {
+        let file = File::new(&db, source.text.clone(), source.path.clone());
+        if modules.insert(source.module.clone(), file).is_some() {
+            let name = source.module.clone();
+            return Err(ExportError::SameModule { name }.into());
+        }
+    }
+    let crate_id = Crate::new(&db, modules, String::new(), PathBuf::new(), String::new());
+
+    let diagnostics = project_parse_diagnostics(&db, crate_id);
+    if !diagnostics.is_empty() {
+        return Err(messages(sources, diagnostics));
+    }
+    let project = semantic::project_semantic_index(&db, crate_id)
+        .map_err(|diagnostics| messages(sources, diagnostics))?;
+    let indexes = sources.iter().map(|s| project.modules()[&s.module].clone());
+    Ok(indexes.collect())
+}
+
+/// The index of the sources, in their order, with a question for each expression and each definition,
+/// and what the original builder made. The index may pass limits.
+pub fn export_sources(sources: &[Source]) -> Result<(Index, Vec<SemanticIndex>), SourceError> {
+    let indexes = semantic_indexes(sources)?;
+    let modules: Vec<ModuleIndex> = sources
+        .iter()
+        .zip(&indexes)
+        .map(|(source, index)| ModuleIndex {
+            name: &source.module,
+            index,
+        })
+        .collect();
+    let mut index = records(&modules)?;
+    index.questions = all_questions(&index);
+    Ok((index, indexes))
+}
+
+fn messages(sources: &[Source], diagnostics: impl IntoIterator<Item = Diagnostic>) -> SourceError {
+    let diagnostics = diagnostics.into_iter();
+    let mut messages: Vec<Message> = diagnostics.map(|d| message(sources, d)).collect();
+    // The project's modules come in no particular order.
+    messages.sort();
+    SourceError::Messages(messages)
+}
+
+fn message(sources: &[Source], diagnostic: Diagnostic) -> Message {
+    let found = sources.iter().position(|s| s.path == diagnostic.file_path);
+    let place = found.map(|number| {
+        let Source { path, text, .. } = &sources[number];
+        let before = &text.as_bytes()[..diagnostic.span.start.min(text.len())];
+        let line = before.iter().filter(|byte| **byte == b'\n').count() + 1;
+        let line_start = before.iter().rposition(|byte| *byte == b'\n');
+        let column = before.len() - line_start.map_or(0, |at| at + 1) + 1;
+        (path.clone(), line, column)
+    });
+    Message {
+        source: found.unwrap_or(sources.len()),
+        place,
+        text: diagnostic.message,
+    }
+}

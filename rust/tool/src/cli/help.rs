@@ -1,0 +1,105 @@
+//! What `typetool COMMAND --help` prints.
+
+pub const ORACLE: &str = "\
+usage: typetool oracle [OPTION...] [FILE]
+
+Prints the lines that `resolve` owes for the index file, or for standard input. A refused file is
+answered by its `refused` line, as `resolve` does.
+
+  --question N   ask question N only (from 0); `refused 5 0` if the file lacks it
+  --memo         keep finished results within a question, as salsa does; only refusal 8 can differ
+  --real-spans   find children by the expressions' own spans, as the Rust does; document 01 goes by
+                 the records' fields, which agree on the set that it compares
+  --mark         say on standard error what lies outside the compared set
+  --steps        say on standard error how many demands each question took, and how many were open
+  --budget N     give a question up after N demands (else 200000) and print `budget` in its place
+
+exit status: 0 answered, 2 the file can't be read or an argument is wrong";
+
+pub const EXPORT: &str = "\
+usage: typetool export [OPTION...] [MODULE=]FILE...
+
+Prints the index file of Cairo-M files, one a module, named by MODULE or else by the file's name
+without its end, in the order given. Each expression and each definition is asked, module by module.
+
+  --fit          if there are over 256 questions, write the first 256 and say so
+  --skip N       leave out the first N questions
+
+exit status: 0 written, 2 a source can't be read or parsed, a limit of an index file is passed, or a
+name can't be written; standard error says which";
+
+pub const GEN: &str = "\
+usage: typetool gen KIND SEED
+       typetool gen source SEED
+       typetool gen fixed [NAME]
+
+Prints one generated index file; the same seed gives the same bytes. KIND is `records` (arbitrary
+well-formed records), `programs` (random source through the original parser and builder), `edges`
+(limits and seldom rules), `damaged` (copies with small damages) or `mixed`. `source` prints the
+source behind `programs`. `fixed` lists the files that aren't random, or prints one.
+
+exit status: 0 printed, 2 an argument is wrong";
+
+pub const DIFFERENTIAL: &str = "\
+usage: typetool differential [OPTION...] PROGRAM N SEED
+
+Runs PROGRAM (an index file on standard input, lines on standard output) and the oracle on the fixed
+files and N random ones. The first difference is reduced and printed with both sides' lines. Files
+that the oracle gives up are passed over. Every 5 seconds standard error says how far the run is.
+
+  --kind KIND        as for `gen`; else `mixed`
+  --timeout SECONDS  for one run of the program; else 20
+  --keep DIR         write the differing file there, whole and reduced
+
+exit status: 0 all equal, 1 a difference, 2 the run itself failed";
+
+pub const SELF_CHECK: &str = "\
+usage: typetool self-check N SEED
+
+On N random files compares the oracle with and without memo, children by spans and by records, and
+exported programs with the original builder's own data.
+
+exit status: 0 all equal, 1 a difference, 2 an argument is wrong";
+
+pub const CORPUS: &str = "\
+usage: typetool corpus check DIR
+       typetool corpus make DIR
+
+DIR has one folder for each Cairo-M program: its modules `NAME.cm`, `main.cm` first and the others by
+name, the exported `index.idx` and the oracle's lines `expected.txt`. `check` compares these two with
+what export and oracle give today (without the originals, it only loads the index files); `make`
+writes them.
+
+exit status: 0 all equal, 1 a difference, 2 the run itself failed";
+
+pub const VECTORS: &str = "\
+usage: typetool vectors check DIR
+       typetool vectors run [--timeout SECONDS] DIR PROGRAM
+       typetool vectors make DIR PROGRAMS
+       typetool vectors list FILE...
+       typetool vectors show FILE NAME index|answer
+       typetool vectors remake DIR PROGRAMS
+
+`check` replays all vectors of DIR against the oracle (without the originals: against the loader) and
+compares the coverage file. `run` asks PROGRAM (an index file on standard input, lines on standard
+output; 20 seconds for each if not said otherwise) and names the vectors that differ; it needs no
+originals. `make` writes them from the fixed list, with the corpus in PROGRAMS;
+`remake` makes them in memory and compares every byte. `list` prints the names with the lengths of
+index and answer, `show` one index or answer.
+
+exit status: 0 all equal, 1 a difference, 2 the run itself failed";
+
+pub const MUTATE: &str = "\
+usage: typetool mutate [OPTION...] WORKSPACE
+
+Changes copies of the originals in one place at a time, builds `replay` with each and replays the
+vectors of WORKSPACE/vectors. Prints one line for each place: caught, and by which vector, equivalent
+(listed with a reason), not built, or missed. The copies and the build stand in
+WORKSPACE/target/mutants.
+
+  --list         print the places only
+  --first N      begin with place N (from 1)
+  --last N       end with place N
+  --table FILE   write the result table there
+
+exit status: 0 none is missed, 1 some are, 2 the run itself failed";
