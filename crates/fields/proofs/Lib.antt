@@ -1,0 +1,4 @@
+-- Laws of fields.
+pub mod Numbers
+pub mod Names
+pub mod Slots

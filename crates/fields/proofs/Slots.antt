@@ -1,0 +1,119 @@
+-- A field by its kind, from a position in the file. Assumes nothing.
+use Prim.Native.Nat.{ℕ, zero, suc, _+_, _-_, _≤_, _<_}
+use mathlib.Core.Path.{_≡_, refl, sym, ap, _∙_}
+use mathlib.Core.List.{List, [], _∷_}
+use mathlib.Core.Bool.{Bool, true, false}
+use mathlib.Core.Option.{Option, none, some}
+use native.Mathlib.Omega.{arith}
+use lib.ListN.{length, take, drop, getD, length-drop, drop-of-length-le}
+use lib.Dec.{eqb}
+use borrow.Author.Tests.{eq-eqb, ne-eqb}
+use Rattle.model.specs.Common.{Text, let-some, is-empty, eq-numbers, first}
+use Rattle.format.specs.declared.Kind.{Kind}
+use Rattle.format.specs.Words.{is-keyword, place-in, unary-op-words, binary-op-words}
+use Rattle.format.specs.Fields.{stops, field-of, behind, is-dash, is-name, all-visible, plain-number, number-of, Value, absent, numbered, name-value, or-dash, value-of, Read, reading, behind-tab, slot-field, is-nothing, slot}
+use Rattle.words.specs.declared.Found.{Found}
+use Rattle.words.specs.Packed.{place-among, words-in, packed, found-is}
+use Rattle.words.proofs.Bytes.{here}
+use Rattle.words.proofs.Keywords.{packed-place}
+use Rattle.fields.specs.Held.{field-as}
+use Rattle.fields.proofs.Numbers.{behind-at}
+
+-- ------------------------------------------------------------------ the bytes of a field
+
+field-take : (t : Text) → take (length (field-of t)) t ≡ field-of t
+unfolding field-of
+field-take [] = refl
+field-take (b ∷ t) = by (stops b) (field-take t)
+  where
+    by : (q : Bool) → take (length (field-of t)) t ≡ field-of t
+        → take (length {A = ℕ} (elim q [ true ↦ [] | false ↦ b ∷ field-of t ])) (b ∷ t) ≡ elim q [ true ↦ [] | false ↦ b ∷ field-of t ]
+    by true h = refl
+    by false h = ap (λ (l : Text). b ∷ l) h
+
+field-within : (t : Text) → length (field-of t) ≤ length t
+unfolding field-of
+field-within [] = omega arith
+field-within (b ∷ t) = by (stops b) (field-within t)
+  where
+    by : (q : Bool) → length (field-of t) ≤ length t → length {A = ℕ} (elim q [ true ↦ [] | false ↦ b ∷ field-of t ]) ≤ suc (length t)
+    by true h = omega arith
+    by false h = omega arith
+
+-- a field that begins in the file ends in it
+pub field-fits : (s : Text) (p : ℕ) → p ≤ length s → p + length (field-of (drop p s)) ≤ length s
+field-fits s p h = omega (arith, field-within (drop p s), length-drop p s)
+
+-- ------------------------------------------------------------------ an operator
+
+module _ (s : Text) (p e : ℕ) (words : List Text) (r : Found) where
+  pub operator-is : e ≡ p + length (field-of (drop p s)) → found-is r ≡ place-among words (take (e - p) (drop p s))
+      → field-as (λ t. numbered (place-among words t)) (drop p s) ≡ reading (drop e s) (numbered (found-is r))
+  unfolding field-as
+  operator-is q found =
+      sym
+      ((λ i. reading (drop (q i) s) (numbered (found i)))
+      ∙ ap (λ n. reading (drop (p + length (field-of (drop p s))) s) (numbered (place-among words (take n (drop p s))))) same-length
+      ∙ (λ i. reading (sym (behind-at s p) i) (numbered (place-among words (field-take (drop p s) i)))))
+    where
+      same-length : e - p ≡ length (field-of (drop p s))
+      same-length = omega (arith, q)
+
+pub unary-op-is : (t : Text) → field-as (λ u. numbered (place-among (words-in (packed unary-op-words)) u)) t ≡ field-as (value-of Kind.UnaryOp) t
+unfolding field-as value-of
+unary-op-is t = ap (λ o. reading (behind t) (numbered o)) (packed-place unary-op-words (field-of t))
+
+pub binary-op-is : (t : Text) → field-as (λ u. numbered (place-among (words-in (packed binary-op-words)) u)) t ≡ field-as (value-of Kind.BinaryOp) t
+unfolding field-as value-of
+binary-op-is t = ap (λ o. reading (behind t) (numbered o)) (packed-place binary-op-words (field-of t))
+
+-- ------------------------------------------------------------------ a field of a kind
+
+-- no kind has an empty field
+none-empty : (k : Kind) → value-of k [] ≡ none
+unfolding value-of or-dash name-value is-name number-of plain-number place-in first eq-numbers is-keyword
+none-empty Kind.Nothing = refl
+none-empty Kind.Number = refl
+none-empty Kind.MaybeNumber = refl
+none-empty Kind.Position = refl
+none-empty Kind.Size = refl
+none-empty Kind.Name = refl
+none-empty Kind.MaybeName = refl
+none-empty Kind.UnaryOp = refl
+none-empty Kind.BinaryOp = refl
+none-empty Kind.Unused = refl
+
+pub empty-wrong : (k : Kind) (t : Text) → field-of t ≡ [] → field-as (value-of k) t ≡ none
+unfolding field-as
+empty-wrong k t q = ap (λ u. reading (behind t) (value-of k u)) q ∙ ap (reading (behind t)) (none-empty k)
+
+pub nothing-wrong : (t : Text) → field-as (value-of Kind.Nothing) t ≡ none
+unfolding field-as value-of
+nothing-wrong t = refl
+
+-- the same field, whose kind is known
+pub of-kind : (k known : Kind) (t : Text) → k ≡ known → field-as (value-of known) t ≡ field-as (value-of k) t
+of-kind k known t q = ap (λ j. field-as (value-of j) t) (sym q)
+
+-- ------------------------------------------------------------------ a field behind a tab
+
+module _ (k : Kind) (s : Text) (e : ℕ) where
+  pub slot-nothing : is-nothing k ≡ true → slot k (drop e s) ≡ some (record { value = absent; rest = drop e s })
+  unfolding slot
+  slot-nothing q = λ i. elim (q i) [ true ↦ some (record { value = absent; rest = drop e s }) | false ↦ slot-field k (drop e s) ]
+
+  slot-some : is-nothing k ≡ false → slot k (drop e s) ≡ slot-field k (drop e s)
+  unfolding slot
+  slot-some q = λ i. elim (q i) [ true ↦ some (record { value = absent; rest = drop e s }) | false ↦ slot-field k (drop e s) ]
+
+  pub slot-out : is-nothing k ≡ false → length s ≤ e → slot k (drop e s) ≡ none
+  unfolding slot-field behind-tab
+  slot-out q h = slot-some q ∙ rw (drop-of-length-le s h)
+
+  pub slot-no-tab : is-nothing k ≡ false → e < length s → (getD s e 0 ≡ 9 → ⊥) → slot k (drop e s) ≡ none
+  unfolding slot-field behind-tab
+  slot-no-tab q h n = slot-some q ∙ rw (here s e h, ne-eqb (getD s e 0) 9 n, behind-tab)
+
+  pub slot-is-field : is-nothing k ≡ false → e < length s → getD s e 0 ≡ 9 → slot k (drop e s) ≡ field-as (value-of k) (drop (e + 1) s)
+  unfolding slot-field behind-tab field-as
+  slot-is-field q h n = slot-some q ∙ rw (here s e h, eq-eqb (getD s e 0) 9 n, behind-tab)

@@ -1,0 +1,95 @@
+-- `fields::name_at` meets its contract. Assumes nothing.
+use Prim.Native.Nat.{_+_, _-_}
+use mathlib.Core.Path.{_≡_, sym, ap, _∙_}
+use mathlib.Core.Option.{some}
+use lib.ListN.{length, take, drop}
+use Rattle.model.specs.Common.{is-empty}
+use Rattle.format.specs.Fields.{field-of, text}
+use Rattle.fields.specs.Held.{visible-run}
+use native.Mathlib.Omega.{arith}
+use Rattle.fields.proofs.Numbers.{is-empty-of}
+use Rattle.fields.proofs.Names.{not-yes, not-no, name-dash, name-hidden, name-empty, name-long, name-is}
+use borrow.Author.Needs.{needs}
+use Rattle.fields.proofs.name_at.Statement.{statement}
+use Rattle.fields.proofs.name_at.Tie as tie
+use Rattle.fields.proofs.name_at.Reads as reads
+use Rattle.fields.proofs.name_at.Lts as lts
+use Rattle.fields.proofs.is_dash_at.Reads as is-dash-at-reads
+use Rattle.fields.proofs.is_end.Reads as is-end-reads
+use Rattle.fields.proofs.visible_end.Reads as visible-end-reads
+
+-- src/lib.rt:130:8
+is-dash-at-requires : tie.Need-is-dash-at-requires
+is-dash-at-requires c κs = search needs
+
+-- src/lib.rt:131:9
+returns : tie.Need-returns
+returns c =
+    let a = c .before .before .before .args in
+    sym (name-dash (a .file .now) (a .from) (sym (c .before .is-dash-at .ensures) ∙ c .if1 .taken))
+
+-- src/lib.rt:133:9
+visible-end-requires : tie.Need-visible-end-requires
+visible-end-requires c κs = search needs
+
+-- src/lib.rt:134:9
+is-end-requires : tie.Need-is-end-requires
+is-end-requires c κs = search needs
+
+-- src/lib.rt:135:9
+returns-2 : tie.Need-returns-2
+returns-2 c =
+    let a = c .before .before .before .before .before .before .args in
+    let s = a .file .now in
+    let q = c .before .before .visible-end .ensures in
+    sym (name-hidden s (a .from) (ap (λ n. is-empty (field-of (drop n s))) (sym q) ∙ sym (c .before .is-end .ensures) ∙ not-yes _ (c .if2 .taken)))
+
+-- src/lib.rt:137:13
+sub-n : tie.Need-sub-n
+sub-n c = search needs
+
+-- src/lib.rt:139:9
+returns-3 : tie.Need-returns-3
+returns-3 c =
+    let a = c .before .before .before .before .before .before .before .args in
+    let s = a .file .now in
+    let p = a .from in
+    let q = c .before .before .before .visible-end .ensures in
+    let ends = is-empty-of s (p + length (visible-run (drop p s))) (ap (λ n. is-empty (field-of (drop n s))) (sym q) ∙ sym (c .before .before .is-end .ensures) ∙ not-no _ (c .before .if2 .left)) in
+    sym (name-empty s p ends (omega (arith, q)))
+
+-- src/lib.rt:142:9
+returns-4 : tie.Need-returns-4
+returns-4 c =
+    let a = c .before .before .before .before .before .before .before .before .args in
+    let s = a .file .now in
+    let p = a .from in
+    let q = c .before .before .before .before .visible-end .ensures in
+    let ends = is-empty-of s (p + length (visible-run (drop p s))) (ap (λ n. is-empty (field-of (drop n s))) (sym q) ∙ sym (c .before .before .before .is-end .ensures) ∙ not-no _ (c .before .before .if2 .left)) in
+    sym (name-long s p ends (omega (arith, q)))
+
+-- src/lib.rt:127:1
+returns-5 : tie.Need-returns-5
+returns-5 c =
+    let a = c .before .before .before .before .before .before .before .before .args in
+    let s = a .file .now in
+    let p = a .from in
+    let q = c .before .before .before .before .visible-end .ensures in
+    let ends = is-empty-of s (p + length (visible-run (drop p s))) (ap (λ n. is-empty (field-of (drop n s))) (sym q) ∙ sym (c .before .before .before .is-end .ensures) ∙ not-no _ (c .before .before .if2 .left)) in
+    let m : c .before .before .before .before .visible-end .result - p ≡ length (visible-run (drop p s)) = omega (arith, q) in
+    (λ i. some (record { value = text (take (m i) (drop p s)); rest = drop (q i) s }))
+    ∙ sym (name-is s p ends (sym (c .before .before .before .before .before .before .is-dash-at .ensures) ∙ c .before .before .before .before .before .if1 .left) (omega (arith, q)) (omega (arith, q)))
+
+pub name-at-spec : {M : Type 1} → statement M
+name-at-spec =
+    tie.close
+    (tie.spec
+    is-dash-at-requires
+    returns
+    visible-end-requires
+    is-end-requires
+    returns-2
+    sub-n
+    returns-3
+    returns-4
+    returns-5)

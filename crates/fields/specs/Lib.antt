@@ -1,0 +1,2 @@
+-- What a field that was read stands for.
+pub mod Held

@@ -1,0 +1,55 @@
+-- `words::line_word` meets its contract: the search through the byte string is the search through the table. Assumes nothing.
+use Rattle.format.specs.Words.{line-words, line-word-of}
+use Rattle.format.specs.declared.LineWord.{LineWord}
+use Rattle.words.specs.Packed.{packed}
+use Rattle.words.proofs.Keywords.{word-found, word-missing}
+use borrow.Author.Needs.{needs}
+use Rattle.words.proofs.line_word.Statement.{statement}
+use Rattle.words.proofs.line_word.Tie as tie
+use Rattle.words.proofs.line_word.Reads as reads
+use Rattle.words.proofs.line_word.Lts as lts
+use Rattle.words.proofs.find_word.Reads as find-word-reads
+use Rattle.words.proofs.line_word_at.Reads as line-word-at-reads
+
+-- src/lib.rt:108:28
+slice-aggregate-find-word : tie.Need-slice-aggregate-find-word
+slice-aggregate-find-word c = search needs
+
+-- src/lib.rt:108:11
+find-word-requires : tie.Need-find-word-requires
+find-word-requires c κs = search needs
+
+-- src/lib.rt:109:19
+enum-known-k : tie.Need-enum-known-k
+enum-known-k c = search needs
+
+-- src/lib.rt:109:25
+line-word-at-requires : tie.Need-line-word-at-requires
+line-word-at-requires c κs = search needs
+
+-- src/lib.rt:110:27
+enum-told : tie.Need-enum-told
+enum-told c = search needs
+
+-- src/lib.rt:105:1
+returns : tie.Need-returns
+unfolding packed line-word-of
+returns c =
+    word-found line-words LineWord.Other _ _ _ _ (c .before .before .before .before .find-word .ensures) (c .before .before .k .given .1) (c .line-word-at .ensures)
+
+-- src/lib.rt:105:1
+returns-2 : tie.Need-returns-2
+unfolding packed line-word-of
+returns-2 c = word-missing line-words LineWord.Other _ _ (c .before .before .find-word .ensures) (c .enum-told .given .1)
+
+pub line-word-spec : {M : Type 1} → statement M
+line-word-spec =
+    tie.close
+    (tie.spec
+    slice-aggregate-find-word
+    find-word-requires
+    enum-known-k
+    line-word-at-requires
+    enum-told
+    returns
+    returns-2)

@@ -1,0 +1,55 @@
+-- `words::node_word` meets its contract: the search through the byte string is the search through the table. Assumes nothing.
+use Rattle.format.specs.Words.{node-words, node-word-of}
+use Rattle.format.specs.declared.NodeWord.{NodeWord}
+use Rattle.words.specs.Packed.{packed}
+use Rattle.words.proofs.Keywords.{word-found, word-missing}
+use borrow.Author.Needs.{needs}
+use Rattle.words.proofs.node_word.Statement.{statement}
+use Rattle.words.proofs.node_word.Tie as tie
+use Rattle.words.proofs.node_word.Reads as reads
+use Rattle.words.proofs.node_word.Lts as lts
+use Rattle.words.proofs.find_word.Reads as find-word-reads
+use Rattle.words.proofs.node_word_at.Reads as node-word-at-reads
+
+-- src/lib.rt:233:28
+slice-aggregate-find-word : tie.Need-slice-aggregate-find-word
+slice-aggregate-find-word c = search needs
+
+-- src/lib.rt:233:11
+find-word-requires : tie.Need-find-word-requires
+find-word-requires c κs = search needs
+
+-- src/lib.rt:234:19
+enum-known-k : tie.Need-enum-known-k
+enum-known-k c = search needs
+
+-- src/lib.rt:234:25
+node-word-at-requires : tie.Need-node-word-at-requires
+node-word-at-requires c κs = search needs
+
+-- src/lib.rt:235:27
+enum-told : tie.Need-enum-told
+enum-told c = search needs
+
+-- src/lib.rt:230:1
+returns : tie.Need-returns
+unfolding packed node-word-of
+returns c =
+    word-found node-words NodeWord.Other _ _ _ _ (c .before .before .before .before .find-word .ensures) (c .before .before .k .given .1) (c .node-word-at .ensures)
+
+-- src/lib.rt:230:1
+returns-2 : tie.Need-returns-2
+unfolding packed node-word-of
+returns-2 c = word-missing node-words NodeWord.Other _ _ (c .before .before .find-word .ensures) (c .enum-told .given .1)
+
+pub node-word-spec : {M : Type 1} → statement M
+node-word-spec =
+    tie.close
+    (tie.spec
+    slice-aggregate-find-word
+    find-word-requires
+    enum-known-k
+    node-word-at-requires
+    enum-told
+    returns
+    returns-2)

@@ -1,0 +1,55 @@
+-- `words::question_word` meets its contract: the search through the byte string is the search through the table. Assumes nothing.
+use Rattle.format.specs.Words.{question-words, question-word-of}
+use Rattle.format.specs.declared.QuestionWord.{QuestionWord}
+use Rattle.words.specs.Packed.{packed}
+use Rattle.words.proofs.Keywords.{word-found, word-missing}
+use borrow.Author.Needs.{needs}
+use Rattle.words.proofs.question_word.Statement.{statement}
+use Rattle.words.proofs.question_word.Tie as tie
+use Rattle.words.proofs.question_word.Reads as reads
+use Rattle.words.proofs.question_word.Lts as lts
+use Rattle.words.proofs.find_word.Reads as find-word-reads
+use Rattle.words.proofs.question_word_at.Reads as question-word-at-reads
+
+-- src/lib.rt:253:28
+slice-aggregate-find-word : tie.Need-slice-aggregate-find-word
+slice-aggregate-find-word c = search needs
+
+-- src/lib.rt:253:11
+find-word-requires : tie.Need-find-word-requires
+find-word-requires c κs = search needs
+
+-- src/lib.rt:254:19
+enum-known-k : tie.Need-enum-known-k
+enum-known-k c = search needs
+
+-- src/lib.rt:254:25
+question-word-at-requires : tie.Need-question-word-at-requires
+question-word-at-requires c κs = search needs
+
+-- src/lib.rt:255:27
+enum-told : tie.Need-enum-told
+enum-told c = search needs
+
+-- src/lib.rt:250:1
+returns : tie.Need-returns
+unfolding packed question-word-of
+returns c =
+    word-found question-words QuestionWord.Other _ _ _ _ (c .before .before .before .before .find-word .ensures) (c .before .before .k .given .1) (c .question-word-at .ensures)
+
+-- src/lib.rt:250:1
+returns-2 : tie.Need-returns-2
+unfolding packed question-word-of
+returns-2 c = word-missing question-words QuestionWord.Other _ _ (c .before .before .find-word .ensures) (c .enum-told .given .1)
+
+pub question-word-spec : {M : Type 1} → statement M
+question-word-spec =
+    tie.close
+    (tie.spec
+    slice-aggregate-find-word
+    find-word-requires
+    enum-known-k
+    question-word-at-requires
+    enum-told
+    returns
+    returns-2)

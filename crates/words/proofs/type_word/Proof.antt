@@ -1,0 +1,55 @@
+-- `words::type_word` meets its contract: the search through the byte string is the search through the table. Assumes nothing.
+use Rattle.format.specs.Words.{type-words, type-word-of}
+use Rattle.format.specs.declared.TypeWord.{TypeWord}
+use Rattle.words.specs.Packed.{packed}
+use Rattle.words.proofs.Keywords.{word-found, word-missing}
+use borrow.Author.Needs.{needs}
+use Rattle.words.proofs.type_word.Statement.{statement}
+use Rattle.words.proofs.type_word.Tie as tie
+use Rattle.words.proofs.type_word.Reads as reads
+use Rattle.words.proofs.type_word.Lts as lts
+use Rattle.words.proofs.find_word.Reads as find-word-reads
+use Rattle.words.proofs.type_word_at.Reads as type-word-at-reads
+
+-- src/lib.rt:153:28
+slice-aggregate-find-word : tie.Need-slice-aggregate-find-word
+slice-aggregate-find-word c = search needs
+
+-- src/lib.rt:153:11
+find-word-requires : tie.Need-find-word-requires
+find-word-requires c κs = search needs
+
+-- src/lib.rt:154:19
+enum-known-k : tie.Need-enum-known-k
+enum-known-k c = search needs
+
+-- src/lib.rt:154:25
+type-word-at-requires : tie.Need-type-word-at-requires
+type-word-at-requires c κs = search needs
+
+-- src/lib.rt:155:27
+enum-told : tie.Need-enum-told
+enum-told c = search needs
+
+-- src/lib.rt:150:1
+returns : tie.Need-returns
+unfolding packed type-word-of
+returns c =
+    word-found type-words TypeWord.Other _ _ _ _ (c .before .before .before .before .find-word .ensures) (c .before .before .k .given .1) (c .type-word-at .ensures)
+
+-- src/lib.rt:150:1
+returns-2 : tie.Need-returns-2
+unfolding packed type-word-of
+returns-2 c = word-missing type-words TypeWord.Other _ _ (c .before .before .find-word .ensures) (c .enum-told .given .1)
+
+pub type-word-spec : {M : Type 1} → statement M
+type-word-spec =
+    tie.close
+    (tie.spec
+    slice-aggregate-find-word
+    find-word-requires
+    enum-known-k
+    type-word-at-requires
+    enum-told
+    returns
+    returns-2)

@@ -1,0 +1,2 @@
+-- What a table of words holds.
+pub mod Packed
