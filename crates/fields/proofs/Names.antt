@@ -1,19 +1,18 @@
 -- Names and `-`, from a position in the file. Assumes nothing.
-use Prim.Native.Nat.{ℕ, zero, suc, _+_, _-_, _≤_, _<_}
-use mathlib.Core.Path.{_≡_, refl, sym, ap, _∙_, subst}
-use mathlib.Core.List.{List, [], _∷_}
-use mathlib.Core.Bool.{Bool, true, false, not, _&&_, _||_, false≢true}
+use Prim.Native.Nat.{ℕ, _+_, _-_, _≤_, _<_}
+use mathlib.Core.Path.{_≡_, refl, sym, ap, _∙_}
+use mathlib.Core.List.{[], _∷_}
+use mathlib.Core.Bool.{Bool, true, false, not, _&&_, false≢true}
 use mathlib.Core.Option.{Option, none, some}
 use native.Mathlib.Omega.{arith}
-use native.Mathlib.Nat.{add-zero}
 use lib.ListN.{length, take, drop, getD, drop-of-length-le}
-use lib.Seq.{drop-drop, take-append-seam}
-use lib.Dec.{eqb, leb, ltb}
+use lib.Seq.{drop-drop}
+use lib.Dec.{leb, ltb}
 use borrow.Author.Tests.{le-leb, lt-leb, eq-eqb, ne-eqb}
-use Rattle.model.specs.Common.{Text, bytes, is-empty, eq-numbers}
+use Rattle.model.specs.Common.{Text, is-empty, eq-numbers}
 use Rattle.model.proofs.Tests.{ltb-lt, ltb-false, eq-numbers-sound}
 use Rattle.format.specs.declared.Kind.{Kind}
-use Rattle.format.specs.Fields.{stops, field-of, behind, only-if, is-dash, all-visible, is-name, Value, absent, text, numbered, number-of, name-value, or-dash, value-of, Read, reading}
+use Rattle.format.specs.Fields.{stops, field-of, behind, only-if, is-dash, all-visible, is-name, Value, absent, text, numbered, number-of, name-value, or-dash, value-of, reading}
 use Rattle.words.proofs.Bytes.{here, field-stop, field-more, field-out}
 use Rattle.fields.specs.Held.{field-as, visible-run}
 use Rattle.fields.proofs.Numbers.{behind-at}

@@ -1,18 +1,18 @@
 -- Numbers, from a position in the file. Assumes nothing.
-use Prim.Native.Nat.{ℕ, zero, suc, _+_, _-_, _*_, _≤_, _<_}
+use Prim.Native.Nat.{ℕ, suc, _+_, _-_, _*_, _≤_, _<_}
 use mathlib.Core.Path.{_≡_, refl, sym, ap, _∙_}
 use mathlib.Core.List.{List, [], _∷_}
-use mathlib.Core.Bool.{Bool, true, false, _&&_, false≢true}
+use mathlib.Core.Bool.{Bool, true, false, false≢true}
 use mathlib.Core.Option.{Option, none, some, Option·none-ne-some, Option·some-injective}
 use native.Mathlib.Omega.{arith}
 use native.Mathlib.Nat.{add-zero}
 use lib.ListN.{length, drop, getD}
 use lib.Seq.{drop-drop}
 use lib.Dec.{eqb, leb, ltb, leb·zero}
-use borrow.Author.Tests.{le-leb, lt-leb, eq-eqb, ne-eqb}
+use borrow.Author.Tests.{le-leb, lt-leb, ne-eqb}
 use Rattle.model.specs.Common.{Text, let-some, is-empty}
 use Rattle.model.proofs.Tests.{ltb-lt, ltb-false}
-use Rattle.format.specs.Fields.{stops, field-of, behind, is-digit, digits, only-if, alone, plain-number, number-of, Value, number, numbered, Read, reading}
+use Rattle.format.specs.Fields.{stops, field-of, behind, is-digit, digits, only-if, alone, plain-number, number-of, number, numbered, reading}
 use Rattle.words.proofs.Bytes.{field-stop, field-more, field-out}
 use Rattle.fields.specs.Held.{field-as, scanned}
 

@@ -1,22 +1,25 @@
 -- A field by its kind, from a position in the file. Assumes nothing.
-use Prim.Native.Nat.{ℕ, zero, suc, _+_, _-_, _≤_, _<_}
+use Prim.Native.Nat.{ℕ, suc, _+_, _-_, _≤_, _<_}
 use mathlib.Core.Path.{_≡_, refl, sym, ap, _∙_}
 use mathlib.Core.List.{List, [], _∷_}
 use mathlib.Core.Bool.{Bool, true, false}
-use mathlib.Core.Option.{Option, none, some}
+use mathlib.Core.Option.{none, some}
 use native.Mathlib.Omega.{arith}
 use lib.ListN.{length, take, drop, getD, length-drop, drop-of-length-le}
-use lib.Dec.{eqb}
 use borrow.Author.Tests.{eq-eqb, ne-eqb}
-use Rattle.model.specs.Common.{Text, let-some, is-empty, eq-numbers, first}
+use Rattle.model.specs.Common.{Text, eq-numbers, first}
 use Rattle.format.specs.declared.Kind.{Kind}
 use Rattle.format.specs.Words.{is-keyword, place-in, unary-op-words, binary-op-words}
-use Rattle.format.specs.Fields.{stops, field-of, behind, is-dash, is-name, all-visible, plain-number, number-of, Value, absent, numbered, name-value, or-dash, value-of, Read, reading, behind-tab, slot-field, is-nothing, slot}
+use Rattle.format.specs.Fields.{stops, field-of, behind, is-name, plain-number, number-of, Value, absent, numbered, name-value, or-dash, value-of, Read, reading, behind-tab, slot-field, is-nothing, slot}
 use Rattle.words.specs.declared.Found.{Found}
 use Rattle.words.specs.Packed.{place-among, words-in, packed, found-is}
 use Rattle.words.proofs.Bytes.{here}
 use Rattle.words.proofs.Keywords.{packed-place}
-use Rattle.fields.specs.Held.{field-as}
+use Rattle.format.specs.Tails.{three}
+use Rattle.format.specs.Lines.{word-here}
+use Rattle.fields.specs.declared.Value as held
+use Rattle.fields.specs.declared.Slot.{Slot}
+use Rattle.fields.specs.Held.{value-is, slot-is, field-as}
 use Rattle.fields.proofs.Numbers.{behind-at}
 
 -- ------------------------------------------------------------------ the bytes of a field
@@ -117,3 +120,57 @@ module _ (k : Kind) (s : Text) (e : ℕ) where
   pub slot-is-field : is-nothing k ≡ false → e < length s → getD s e 0 ≡ 9 → slot k (drop e s) ≡ field-as (value-of k) (drop (e + 1) s)
   unfolding slot-field behind-tab field-as
   slot-is-field q h n = slot-some q ∙ rw (here s e h, eq-eqb (getD s e 0) 9 n, behind-tab)
+
+-- ------------------------------------------------------------------ three fields
+
+-- what the definition reads where the code has read a field, and where it has not
+module _ (s t : Text) (k : Kind) (r : Slot) (q : slot-is s r ≡ slot k t) where
+  pub slot-found : (v : held.Value) (e : ℕ) → r ≡ Slot.Is v e → slot k t ≡ some (record { value = value-is s v; rest = drop e s })
+  slot-found v e h = sym q ∙ ap (slot-is s) h
+
+  pub slot-lost : r ≡ Slot.Wrong → slot k t ≡ none
+  slot-lost h = sym q ∙ ap (slot-is s) h
+
+module _ (ka kb kc : Kind) (t : Text) where
+  pub no-first : slot ka t ≡ none → three ka kb kc t ≡ none
+  unfolding three
+  no-first p = rw p
+
+  pub no-second : (x : Read) → slot ka t ≡ some x → slot kb (x .rest) ≡ none → three ka kb kc t ≡ none
+  unfolding three
+  no-second x p q = rw (p, q)
+
+  pub no-third : (x y : Read) → slot ka t ≡ some x → slot kb (x .rest) ≡ some y → slot kc (y .rest) ≡ none → three ka kb kc t ≡ none
+  unfolding three
+  no-third x y p q r = rw (p, q, r)
+
+  pub all-three : (x y z : Read) → slot ka t ≡ some x → slot kb (x .rest) ≡ some y → slot kc (y .rest) ≡ some z
+      → three ka kb kc t ≡ some (record { a = x .value; b = y .value; c = z .value; rest = z .rest })
+  unfolding three
+  all-three x y z p q r = rw (p, q, r)
+
+-- ------------------------------------------------------------------ a word behind a tab
+
+module _ (s : Text) (e : ℕ) where
+  pub word-out : length s ≤ e → word-here (drop e s) ≡ none
+  unfolding word-here behind-tab
+  word-out h = rw (drop-of-length-le s h)
+
+  pub word-no-tab : e < length s → (getD s e 0 ≡ 9 → ⊥) → word-here (drop e s) ≡ none
+  unfolding word-here behind-tab
+  word-no-tab h n = rw (here s e h, ne-eqb (getD s e 0) 9 n, behind-tab)
+
+  pub word-found : (x : ℕ) → e < length s → getD s e 0 ≡ 9 → x ≡ e + 1 + length (field-of (drop (e + 1) s))
+      → word-here (drop e s) ≡ some (record { word = take (x - (e + 1)) (drop (e + 1) s); rest = drop x s })
+  unfolding word-here behind-tab
+  word-found x h n q =
+      behind-the-tab
+      ∙ sym
+      (ap (λ m. some (record { word = take m (drop (e + 1) s); rest = drop x s })) same-length
+      ∙ (λ i. some (record { word = field-take (drop (e + 1) s) i; rest = (ap (λ m. drop m s) q ∙ sym (behind-at s (e + 1))) i })))
+    where
+      behind-the-tab : word-here (drop e s) ≡ some (record { word = field-of (drop (e + 1) s); rest = behind (drop (e + 1) s) })
+      behind-the-tab = rw (here s e h, eq-eqb (getD s e 0) 9 n, behind-tab)
+
+      same-length : x - (e + 1) ≡ length (field-of (drop (e + 1) s))
+      same-length = omega (arith, q)

@@ -6,7 +6,8 @@ ghost use Rattle.model.specs.Common.{is-empty};
 ghost use Rattle.format.specs.Fields.{field-of, is-dash, number-of, numbered, name-value, value-of, is-nothing, slot};
 ghost use Rattle.format.specs.declared.Kind.{Kind};
 ghost use Rattle.words.specs.Packed.{place-among, words-in};
-ghost use Rattle.fields.specs.Held.{slot-is, field-as, scanned, visible-run};
+ghost use Rattle.format.specs.Tails.{three};
+ghost use Rattle.fields.specs.Held.{IsWord, slot-is, three-is, field-as, scanned, visible-run};
 use format::Kind;
 use words::Found;
 use words::field_end;
@@ -22,6 +23,18 @@ pub enum Value {
 // A field that was read, and where it ends.
 pub enum Slot {
     Is(Value, usize),
+    Wrong,
+}
+
+// Three fields that were read, and where they end.
+pub enum Three {
+    Are(Value, Value, Value, usize),
+    Wrong,
+}
+
+// A word that stands behind a tab: where it begins and where it ends.
+pub enum Word {
+    Is(usize, usize),
     Wrong,
 }
 
@@ -246,4 +259,34 @@ pub fn read_slot(file: &[u8], kind: Kind, at: usize) -> Slot
         return Slot::Wrong;
     }
     value_at(file, kind, at + 1)
+}
+
+// ---- fields one after the other
+
+pub fn three_slots(file: &[u8], ka: Kind, kb: Kind, kc: Kind, at: usize) -> Three
+    ensures { λ r. ⌜ three-is (now (file .entry)) r ≡ three ka kb kc (drop at (now (file .entry))) ⌝ }
+{
+    match read_slot(file, ka, at) {
+        Slot::Is(a, after_a) => match read_slot(file, kb, after_a) {
+            Slot::Is(b, after_b) => match read_slot(file, kc, after_b) {
+                Slot::Is(c, end) => Three::Are(a, b, c, end),
+                Slot::Wrong => Three::Wrong,
+            },
+            Slot::Wrong => Three::Wrong,
+        },
+        Slot::Wrong => Three::Wrong,
+    }
+}
+
+pub fn word_here(file: &[u8], at: usize) -> Word
+    ensures { λ r. ⌜ IsWord (now (file .entry)) at r ⌝ }
+{
+    if file.len() <= at {
+        return Word::Wrong;
+    }
+    if file[at] != 9 {
+        return Word::Wrong;
+    }
+    let from = at + 1;
+    Word::Is(from, field_end(file, from))
 }

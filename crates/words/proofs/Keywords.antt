@@ -1,11 +1,11 @@
 -- A table of keywords of the definition and the byte string that the code searches: the same words in the same order. Assumes nothing.
-use Prim.Native.Nat.{ℕ, zero, suc, _≤_, _<_}
+use Prim.Native.Nat.{ℕ, zero, suc, _≤_}
 use mathlib.Core.Path.{_≡_, refl, sym, ap, _∙_}
 use mathlib.Core.List.{List, [], _∷_, _++_, map}
-use mathlib.Core.Option.{Option, none, some}
+use mathlib.Core.Option.{none, some}
 use native.Mathlib.Omega.{arith}
 use native.Mathlib.Nat.{not-suc-le-zero, le-of-suc-le-suc}
-use lib.ListN.{length, take, drop, getElem?, length-append}
+use lib.ListN.{length, getElem?, length-append}
 use lib.Seq.{take-append-seam, drop-append-seam}
 use Rattle.model.specs.Common.{Text, let-some, if_then_else_, next, first, eq-numbers}
 use Rattle.format.specs.Words.{Keyword, is-keyword, place-in, word-at, word-in}

@@ -2,13 +2,13 @@
 use Prim.Native.Nat.{ℕ, zero, suc, _+_, _-_, _≤_, _<_}
 use mathlib.Core.Path.{_≡_, refl, sym, ap, _∙_}
 use mathlib.Core.List.{List, [], _∷_}
-use mathlib.Core.Bool.{Bool, true, false, false≢true}
+use mathlib.Core.Bool.{Bool, true, false}
 use mathlib.Core.Option.{Option, none, some}
 use native.Mathlib.Nat.{add-zero, zero-add}
 use native.Mathlib.Omega.{arith}
-use lib.Dec.{eqb, leb}
+use lib.Dec.{leb}
 use lib.ListN.{length, take, drop, getD, length-drop, drop-of-length-le}
-use lib.Seq.{drop-drop, length-take-le}
+use lib.Seq.{drop-drop}
 use borrow.Author.Tests.{le-leb, lt-leb}
 use Rattle.model.specs.Common.{Text, if_then_else_, next, first, eq-numbers}
 use Rattle.model.proofs.Tests.{eq-numbers-sound}

@@ -1,11 +1,10 @@
 -- `fields::digits_at` meets its contract: the whole number is what is left of it, behind the digits that were read. Assumes nothing.
-use Prim.Native.Nat.{ℕ, _+_, _-_, _≤_, _<_, zero-le}
-use mathlib.Core.Path.{_≡_, refl, sym, ap, _∙_}
+use Prim.Native.Nat.{_-_, _≤_, zero-le}
+use mathlib.Core.Path.{_≡_, refl, sym, _∙_}
 use native.Mathlib.Omega.{arith}
-use borrow.Author.Needs.{needs}
-use lib.ListN.{length, drop, getD}
+use lib.ListN.{length}
 use Rattle.fields.specs.Held.{scanned}
-use Rattle.words.proofs.Bytes.{field-stop, field-more, field-out, stops-tab, stops-lf, stops-no}
+use Rattle.words.proofs.Bytes.{field-stop, field-out, stops-tab, stops-lf, stops-no}
 use Rattle.fields.proofs.Numbers.{digit-yes, digit-low, digit-high, scan-end, scan-bad, scan-more, scan-over}
 use Rattle.fields.proofs.digits_at.Statement.{statement}
 use Rattle.fields.proofs.digits_at.Tie as tie

@@ -1,5 +1,5 @@
 -- `fields::maybe_name_at` meets its contract. Assumes nothing.
-use mathlib.Core.Path.{_≡_, sym, _∙_}
+use mathlib.Core.Path.{sym, _∙_}
 use native.Mathlib.Omega.{arith}
 use Rattle.fields.proofs.Names.{dash-inside, maybe-name-yes, maybe-name-no}
 use borrow.Author.Needs.{needs}

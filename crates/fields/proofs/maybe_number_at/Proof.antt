@@ -1,7 +1,6 @@
 -- `fields::maybe_number_at` meets its contract. Assumes nothing.
-use mathlib.Core.Path.{_≡_, sym, _∙_}
+use mathlib.Core.Path.{sym, _∙_}
 use native.Mathlib.Omega.{arith}
-use Rattle.format.specs.Fields.{value-of, numbered, number-of}
 use Rattle.fields.proofs.Names.{dash-inside, maybe-number-yes, maybe-number-no}
 use borrow.Author.Needs.{needs}
 use Rattle.fields.proofs.maybe_number_at.Statement.{statement}

@@ -1,6 +1,6 @@
 -- `fields::number_at` meets its contract. Assumes nothing.
 use Prim.Native.Nat.{_+_}
-use mathlib.Core.Path.{_≡_, sym, _∙_}
+use mathlib.Core.Path.{sym, _∙_}
 use native.Mathlib.Omega.{arith}
 use Rattle.fields.proofs.Numbers.{is-empty-of, begins-here, not-stop, number-none, number-digits, number-zero, number-after-zero}
 use borrow.Author.Needs.{needs}

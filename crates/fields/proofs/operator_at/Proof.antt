@@ -1,7 +1,7 @@
 -- `fields::operator_at` meets its contract. Assumes nothing.
-use mathlib.Core.Path.{_≡_, sym, ap, _∙_}
+use mathlib.Core.Path.{sym, ap, _∙_}
 use native.Mathlib.Omega.{arith}
-use lib.ListN.{length, take, drop}
+use lib.ListN.{drop}
 use Rattle.format.specs.Fields.{reading, numbered}
 use Rattle.words.specs.Packed.{found-is}
 use Rattle.fields.proofs.Slots.{field-fits, operator-is}

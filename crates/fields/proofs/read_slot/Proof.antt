@@ -1,5 +1,5 @@
 -- `fields::read_slot` meets its contract. Assumes nothing.
-use mathlib.Core.Path.{_≡_, sym, _∙_}
+use mathlib.Core.Path.{sym, _∙_}
 use native.Mathlib.Omega.{arith}
 use Rattle.fields.proofs.Slots.{slot-nothing, slot-out, slot-no-tab, slot-is-field}
 use borrow.Author.Needs.{needs}

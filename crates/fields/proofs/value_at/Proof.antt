@@ -1,5 +1,5 @@
 -- `fields::value_at` meets its contract. Assumes nothing.
-use mathlib.Core.Path.{_≡_, sym, _∙_}
+use mathlib.Core.Path.{sym, _∙_}
 use native.Mathlib.Omega.{arith}
 use lib.ListN.{drop}
 use Rattle.format.specs.declared.Kind.{Kind}

@@ -1,5 +1,5 @@
 -- `fields::visible_end` meets its contract: the visible bytes from `from` on end where those from `e` on do. Assumes nothing.
-use Prim.Native.Nat.{ℕ, _+_, _-_}
+use Prim.Native.Nat.{_+_, _-_}
 use mathlib.Core.Path.{_≡_, refl, ap}
 use native.Mathlib.Omega.{arith}
 use lib.ListN.{length, drop}
