@@ -1,0 +1,5 @@
+-- What the proofs of several functions use.
+pub mod Scopes
+pub mod Searches
+pub mod ByKind
+pub mod Definitions

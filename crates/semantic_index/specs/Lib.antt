@@ -1,0 +1,2 @@
+-- What the links of this crate mean. Definitions only.
+pub mod Meaning
