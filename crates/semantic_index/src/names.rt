@@ -2,7 +2,6 @@
 use records::Name;
 ghost use mathlib.Core.Path.{_≡_};
 ghost use Rattle.model.specs.Common.{eq-numbers};
-ghost use Rattle.model.specs.Common.{eq-numbers};
 ghost use Rattle.records.specs.Layout.{word, bytes-at};
 ghost use Rattle.records.specs.Meaning.{name-of};
 
