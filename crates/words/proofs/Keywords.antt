@@ -1,17 +1,18 @@
 -- A table of keywords of the definition and the byte string that the code searches: the same words in the same order. Assumes nothing.
-use Prim.Native.Nat.{ℕ, zero, suc, _≤_}
+use Prim.Native.Nat.{ℕ, zero, suc, _≤_, _<_}
 use mathlib.Core.Path.{_≡_, refl, sym, ap, _∙_}
 use mathlib.Core.List.{List, [], _∷_, _++_, map}
 use mathlib.Core.Option.{none, some}
 use native.Mathlib.Omega.{arith}
 use native.Mathlib.Nat.{not-suc-le-zero, le-of-suc-le-suc}
-use lib.ListN.{length, getElem?, length-append}
+use lib.ListN.{length, take, getElem?, length-append, length-take}
 use lib.Seq.{take-append-seam, drop-append-seam}
-use Rattle.model.specs.Common.{Text, let-some, if_then_else_, next, first, eq-numbers}
+use Rattle.format.specs.Load.{first-lines, first-line-length, version-of}
+use Rattle.model.specs.Common.{Text, bytes, let-some, if_then_else_, next, first, eq-numbers}
 use Rattle.format.specs.Words.{Keyword, is-keyword, place-in, word-at, word-in}
 use Rattle.words.specs.declared.Found.{Found}
 use Rattle.words.specs.Packed.{words-within, words-in, packed, place-among, found-is}
-use Rattle.words.proofs.Tables.{words-cons}
+use Rattle.words.proofs.Tables.{words-cons, other-length}
 
 -- the search through the texts of a table is the search through the table
 texts-place : {A : Type 0} (table : List (Keyword A)) (field : Text) → place-among (map (λ k. k .text) table) field ≡ place-in table field
@@ -70,3 +71,27 @@ none-below (suc n) k h = above n k (none-below n k (h .0)) (h .1)
   where
     above : (m j : ℕ) → m ≤ j → (j ≡ m → ⊥) → suc m ≤ j
     above m j le ne = omega arith
+
+-- ------------------------------------------------------------------ the first line
+
+abbrev pub begin : Text → Text
+begin file = take first-line-length file
+
+pub version-short : (file : Text) → length file < 8 → none ≡ version-of file
+unfolding version-of place-in first is-keyword
+version-short file h = rw (other-length (begin file) (bytes "index\t1\n") differs)
+  where
+    differs : length (begin file) ≡ 8 → ⊥
+    differs e = omega (arith, length-take 8 file, e)
+
+module _ (file : Text) (r : Found) (found : found-is r ≡ place-among (words-in (packed first-lines)) (begin file)) where
+  pub version-missing : r ≡ Found.Nothing → none ≡ version-of file
+  unfolding version-of
+  version-missing h =
+      ap (λ o. let-some o none λ n. some (word-at first-lines 0 n)) (ap found-is (sym h) ∙ found ∙ packed-place first-lines (begin file))
+
+  pub version-found : (k v : ℕ) → r ≡ Found.At k → v ≡ word-at first-lines 0 k → some v ≡ version-of file
+  unfolding version-of
+  version-found k v h w =
+      ap some w
+      ∙ ap (λ o. let-some o none λ n. some (word-at first-lines 0 n)) (ap found-is (sym h) ∙ found ∙ packed-place first-lines (begin file))

@@ -8,6 +8,7 @@ use lib.ListN.{length, take, drop}
 use Rattle.model.specs.Common.{Text, first, eq-numbers}
 use Rattle.format.specs.Words.{Keyword}
 use Rattle.words.specs.declared.Found.{Found}
+use Rattle.words.specs.declared.Version.{Version}
 
 -- the words of a table, at most so many; a word that is cut off ends the table
 unfoldable pub words-within : ℕ → Text → List Text
@@ -31,3 +32,7 @@ place-among words field = first (eq-numbers field) words
 abbrev pub found-is : Found → Option ℕ
 found-is (Found.At k) = some k
 found-is Found.Nothing = none
+
+abbrev pub version-is : Version → Option ℕ
+version-is (Version.Is n) = some n
+version-is Version.Missing = none

@@ -12,7 +12,8 @@ ghost use Rattle.format.specs.declared.DefinitionWord.{DefinitionWord};
 ghost use Rattle.format.specs.declared.OriginWord.{OriginWord};
 ghost use Rattle.format.specs.declared.NodeWord.{NodeWord};
 ghost use Rattle.format.specs.declared.QuestionWord.{QuestionWord};
-ghost use Rattle.words.specs.Packed.{found-is, place-among, words-in};
+ghost use Rattle.format.specs.Load.{first-lines, version-of};
+ghost use Rattle.words.specs.Packed.{found-is, version-is, place-among, words-in};
 use format::DefinitionWord;
 use format::LineWord;
 use format::NodeWord;
@@ -25,6 +26,12 @@ use format::TypeWord;
 pub enum Found {
     At(usize),
     Nothing,
+}
+
+// The version of an index file.
+pub enum Version {
+    Is(u32),
+    Missing,
 }
 
 // The end of the field that begins at `from`: the first tab or LF from there on, or the file's end.
@@ -271,5 +278,28 @@ pub fn question_word(field: &[u8]) -> QuestionWord
     match find_word(field, b"\x04expr\x03def\x04type") {
         Found::At(k) => question_word_at(k),
         Found::Nothing => QuestionWord::Other,
+    }
+}
+
+// ---- the first line, LF included
+
+fn version_at(k: usize) -> u32
+    ensures { λ r. ⌜ r ≡ word-at first-lines 0 k ⌝ }
+{
+    match k {
+        0 => 1,
+        _ => 0,
+    }
+}
+
+pub fn version_of(file: &[u8]) -> Version
+    ensures { λ r. ⌜ version-is r ≡ version-of (now (file .entry)) ⌝ }
+{
+    if file.len() < 8 {
+        return Version::Missing;
+    }
+    match find_word(&file[0..8], b"\x08index\t1\n") {
+        Found::At(k) => Version::Is(version_at(k)),
+        Found::Nothing => Version::Missing,
     }
 }
