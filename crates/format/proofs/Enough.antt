@@ -51,7 +51,7 @@ weaker f nothing = nothing
 weaker f (this x p) = this x (f x p)
 
 -- a slot of no field takes nothing
-slot-shorter : (k : Kind) (t : Text) → Every (λ (r : Read). length (r .rest) ≤ length t) (slot k t)
+pub slot-shorter : (k : Kind) (t : Text) → Every (λ (r : Read). length (r .rest) ≤ length t) (slot k t)
 unfolding slot
 slot-shorter k t = of (is-nothing k)
   where
@@ -62,7 +62,7 @@ slot-shorter k t = of (is-nothing k)
 -- ------------------------------------------------------------------ items
 
 -- the first slot of an item is a field
-first-shorter : (l : Listed) (t : Text) → Every (λ (r : Read). suc (length (r .rest)) ≤ length t) (slot (first-kind l) t)
+pub first-shorter : (l : Listed) (t : Text) → Every (λ (r : Read). suc (length (r .rest)) ≤ length t) (slot (first-kind l) t)
 unfolding slot
 first-shorter Listed.Empty t = field-shorter Kind.Unused t
 first-shorter Listed.Numbers t = field-shorter Kind.Number t
@@ -177,7 +177,7 @@ line-shorter LineWord.Q t =
 line-shorter LineWord.Other t = nothing
 
 -- a line takes at least its LF
-step-shorter : (s : Seen) (t : Text) (s₁ : Seen) (t₁ : Text) → step-on s t ≡ go s₁ t₁ → length t₁ < length t
+pub step-shorter : (s : Seen) (t : Text) (s₁ : Seen) (t₁ : Text) → step-on s t ≡ go s₁ t₁ → length t₁ < length t
 step-shorter s t s₁ t₁ e =
     let added = step-go s t s₁ t₁ e in
     let read : length (added .line .rest) ≤ length (behind t) = every-some (line-shorter (line-word-of (field-of t)) (behind t)) (added .read) in

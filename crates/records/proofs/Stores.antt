@@ -5,8 +5,11 @@ use Prim.Native.Nat.{ℕ, _+_, _-_, _/_, _%_, _≤_, _<_}
 use native.Mathlib.Nat.{add-zero, not-suc-le-zero, eq-or-lt-of-le}
 use native.Mathlib.Omega.{arith}
 use mathlib.Core.List.{List, [], _∷_, _++_}
+use mathlib.Core.Bool.{Bool, true, false}
+use lib.Dec.{ltb}
+use Rattle.model.proofs.Tests.{ltb-lt, ltb-false}
 use lib.ListN.{length, set, length-set, length-append, List·getD-append}
-use lib.Seq.{getD-set-same, getD-set-other, getD-append-seam}
+use lib.Seq.{getD-set-same, getD-set-other, getD-append-seam, getD-append-add}
 use Rattle.model.specs.Records.{TypeExpr, DefinitionKind, Expression}
 use Rattle.records.specs.Layout.{
   scope-place,
@@ -40,7 +43,7 @@ use Rattle.records.specs.Layout.{
   question-by,
   question-row,
 }
-use Rattle.records.specs.Promises.{Put}
+use Rattle.records.specs.Promises.{Put, Same}
 use Rattle.records.proofs.Congruence.{ap₃, ap₄, ap₅}
 use Rattle.records.proofs.Lists.{each-same}
 use Rattle.records.proofs.Options.{no-more, _and_, same, options-same}
@@ -76,6 +79,36 @@ module _ {words : List ℕ} {at : ℕ} {values words′ : List ℕ} (i v : ℕ) 
     inside = λ k h. let l = more-length in ⊎-elim (more-new k) (more-old k) (eq-or-lt-of-le (omega arith));
     outside = λ j h. getD-set-other words′ i j v 0 (more-outside j h .0) ∙ p .outside j (more-outside j h .1);
   }
+
+pub lt-or-ge : (a b : ℕ) → (a < b) ⊎ (b ≤ a)
+lt-or-ge a b = of (ltb a b) refl
+  where
+    of : (t : Bool) → ltb a b ≡ t → (a < b) ⊎ (b ≤ a)
+    of true h = inl (ltb-lt a b h)
+    of false h = inr (ltb-false a b h)
+
+-- one store behind the other
+pub put-append : {words : List ℕ} {at : ℕ} {values words′ more words″ : List ℕ} → Put words at values words′ → Put words′ (at + length values) more words″ → Put words at (values ++ more) words″
+put-append {words} {at} {values} {words′} {more} {words″} p q =
+    record {
+      long = q .long ∙ p .long;
+      inside = λ k h. ⊎-elim (λ low. old k low) (λ high. new k (k - length values) (omega (arith, high)) (omega (arith, h, high, lengths))) (lt-or-ge k (length values));
+      outside = λ i h. q .outside i (apart i h .0) ∙ p .outside i (apart i h .1);
+    }
+  where
+    lengths : length (values ++ more) ≡ length values + length more
+    lengths = length-append values more
+
+    old : (k : ℕ) → k < length values → word words″ (at + k) ≡ word (values ++ more) k
+    old k low = q .outside (at + k) (inl (omega arith)) ∙ p .inside k low ∙ sym (List·getD-append values more 0 k low)
+
+    new : (k j : ℕ) → k ≡ length values + j → j < length more → word words″ (at + k) ≡ word (values ++ more) k
+    new k j e low =
+        ap (word words″) (omega (arith, e)) ∙ q .inside j low ∙ sym (ap (word (values ++ more)) e ∙ getD-append-add values more j 0)
+
+    apart : (i : ℕ) → (i < at) ⊎ (at + length (values ++ more) ≤ i) → ((i < at + length values) ⊎ (at + length values + length more ≤ i)) × ((i < at) ⊎ (at + length values ≤ i))
+    apart i (inl lt) = (inl (omega arith), inl lt)
+    apart i (inr le) = (inr (omega (arith, lengths)), inr (omega (arith, lengths)))
 
 -- ------------------------------------------------------------------ what the row holds that was put
 
@@ -129,10 +162,6 @@ expression-put {words′ = words′} file n kinds scope start end expected defin
 
 -- ------------------------------------------------------------------ rows that a store leaves
 
--- the words from `from` up to `to` are the same
-abbrev pub Same : List ℕ → List ℕ → ℕ → ℕ → Type 0
-Same words words′ from to = (i : ℕ) → from ≤ i → i < to → word words′ i ≡ word words i
-
 pub same-below : {words : List ℕ} {at : ℕ} {values words′ : List ℕ} → Put words at values words′ → (from to : ℕ) → to ≤ at → Same words words′ from to
 same-below p from to h i le lt = p .outside i (inl (omega arith))
 
@@ -142,6 +171,12 @@ same-above p from to h i le lt = p .outside i (inr (omega arith))
 -- a list that lies within the first n items
 abbrev pub Listed : ℕ → ℕ → Type 0
 Listed n v = start-of v + length-of v ≤ n
+
+-- the nodes with a list: a call, a tuple, an array
+pub record ListedNode (n kind v : ℕ) : Type 0 where
+  pub call : kind ≡ 5 → Listed n v
+  pub tuple : kind ≡ 9 → Listed n v
+  pub array : kind ≡ 11 → Listed n v
 
 module _ (file words words′ : List ℕ) (n : ℕ) (items : Same words words′ (item-place 0) (item-place n)) where
   value-same : (i : ℕ) → i < n → item-value words′ i ≡ item-value words i
@@ -165,10 +200,10 @@ module _ (file words words′ : List ℕ) (n : ℕ) (items : Same words words′
       each-same (name-with-type-row file words′) (name-with-type-row file words) (start-of v) (length-of v)
       (λ i le lt. let below : i < n = omega arith in λ d. record { name = ap (name-by file) (name-same i below) d; type = value-same i below d })
 
-  pub type-expr-by-same : (kind a b c : ℕ) → (kind ≡ 5 → Listed n a) → type-expr-by file words′ kind a b c ≡ type-expr-by file words kind a b c
+  pub type-expr-by-same : (kind a b c : ℕ) → (kind ≡ 5 → Listed n c) → type-expr-by file words′ kind a b c ≡ type-expr-by file words kind a b c
   unfolding type-expr-by
   type-expr-by-same kind a b c listed =
-      options-same kind _ _ _ (same and same and same and same and same and (λ h. ap TypeExpr.Tuple (numbers-same a (listed h))) and no-more)
+      options-same kind _ _ _ (same and same and same and same and same and (λ h. ap TypeExpr.Tuple (numbers-same c (listed h))) and no-more)
 
   pub definition-kind-by-same : (kind a b c d : ℕ) → (kind ≤ 3 → Listed n d) → definition-kind-by file words′ kind a b c d ≡ definition-kind-by file words kind a b c d
   unfolding definition-kind-by
@@ -182,24 +217,23 @@ module _ (file words words′ : List ℕ) (n : ℕ) (items : Same words words′
       and same
       and no-more)
 
-  -- the nodes with a list: a call, a tuple, an array
-  pub expression-by-same : (kind a b c : ℕ) → (kind ≡ 5 → Listed n b) → (kind ≡ 9 → Listed n b) → (kind ≡ 11 → Listed n b)
+  pub expression-by-same : (kind a b c : ℕ) → ListedNode n kind c
       → expression-by file words′ kind a b c ≡ expression-by file words kind a b c
   unfolding expression-by
-  expression-by-same kind a b c call tuple array =
+  expression-by-same kind a b c listed =
       options-same kind _ _ _
       (same
       and same
       and same
       and same
       and same
-      and (λ h. ap (Expression.FunctionCall (link-by a)) (links-same b (call h)))
+      and (λ h. ap (Expression.FunctionCall (link-by a)) (links-same c (listed .call h)))
       and same
       and same
       and same
-      and (λ h. ap Expression.Tuple (links-same b (tuple h)))
+      and (λ h. ap Expression.Tuple (links-same c (listed .tuple h)))
       and same
-      and (λ h. ap Expression.ArrayLiteral (links-same b (array h)))
+      and (λ h. ap Expression.ArrayLiteral (links-same c (listed .array h)))
       and same
       and same
       and same
@@ -219,7 +253,7 @@ question-row-same words words′ q row =
     ap₄ question-by (row (question-place q) (omega arith) (omega arith)) (row (question-place q + 1) (omega arith) (omega arith)) (row (question-place q + 2) (omega arith) (omega arith)) (row (question-place q + 3) (omega arith) (omega arith))
 
 module _ (file words words′ : List ℕ) (n : ℕ) (items : Same words words′ (item-place 0) (item-place n)) where
-  pub type-expr-row-same : (t : ℕ) → Same words words′ (type-expr-place t) (type-expr-place t + 4) → (word words (type-expr-place t) ≡ 5 → Listed n (word words (type-expr-place t + 1))) → type-expr-row file words′ t ≡ type-expr-row file words t
+  pub type-expr-row-same : (t : ℕ) → Same words words′ (type-expr-place t) (type-expr-place t + 4) → (word words (type-expr-place t) ≡ 5 → Listed n (word words (type-expr-place t + 3))) → type-expr-row file words′ t ≡ type-expr-row file words t
   unfolding type-expr-row
   type-expr-row-same t row listed =
       ap₄ (type-expr-by file words′) (row (type-expr-place t) (omega arith) (omega arith)) (row (type-expr-place t + 1) (omega arith) (omega arith)) (row (type-expr-place t + 2) (omega arith) (omega arith)) (row (type-expr-place t + 3) (omega arith) (omega arith))
@@ -243,10 +277,10 @@ module _ (file words words′ : List ℕ) (n : ℕ) (items : Same words words′
       at j h = row (definition-place k + j) (omega arith) (omega arith)
 
   pub expression-row-same : (e : ℕ) → Same words words′ (expression-place e) (expression-place e + 11)
-      → (word words (expression-place e) % 256 ≡ 5 → Listed n (expression-word words e 9)) → (word words (expression-place e) % 256 ≡ 9 → Listed n (expression-word words e 9)) → (word words (expression-place e) % 256 ≡ 11 → Listed n (expression-word words e 9))
+      → ListedNode n (word words (expression-place e) % 256) (expression-word words e 10)
       → expression-row file words′ e ≡ expression-row file words e
   unfolding expression-row
-  expression-row-same e row h5 h9 h11 = λ i. record {
+  expression-row-same e row listed = λ i. record {
     scope = at 1 (omega arith) i;
     start = at 2 (omega arith) i;
     end = at 3 (omega arith) i;
@@ -255,7 +289,7 @@ module _ (file words words′ : List ℕ) (n : ℕ) (items : Same words words′
     origin = ap₃ (origin-by file) (ap (λ k. k / 256) kinds) (at 6 (omega arith)) (at 7 (omega arith)) i;
     node =
         (ap₄ (expression-by file words′) (ap (λ k. k % 256) kinds) (at 8 (omega arith)) (at 9 (omega arith)) (at 10 (omega arith))
-        ∙ expression-by-same file words words′ n items (word words (expression-place e) % 256) (expression-word words e 8) (expression-word words e 9) (expression-word words e 10) h5 h9 h11) i;
+        ∙ expression-by-same file words words′ n items (word words (expression-place e) % 256) (expression-word words e 8) (expression-word words e 9) (expression-word words e 10) listed) i;
   }
     where
       kinds : word words′ (expression-place e) ≡ word words (expression-place e)

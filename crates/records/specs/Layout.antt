@@ -128,7 +128,7 @@ type-expr-by file words kind a b c =
     ∷ TypeExpr.U32
     ∷ TypeExpr.Custom (name-by file a)
     ∷ TypeExpr.Pointer a
-    ∷ TypeExpr.Tuple (numbers-at words (start-of a) (length-of a))
+    ∷ TypeExpr.Tuple (numbers-at words (start-of c) (length-of c))
     ∷ [])
     (TypeExpr.FixedArray a (size-by b c))
 
@@ -230,13 +230,13 @@ expression-by file words kind a b c =
     ∷ Expression.Identifier (name-by file a)
     ∷ Expression.Unary (unary-op-by a) (link-by b)
     ∷ Expression.Binary (binary-op-by a) (link-by b) (link-by c)
-    ∷ Expression.FunctionCall (link-by a) (links-at words (start-of b) (length-of b))
+    ∷ Expression.FunctionCall (link-by a) (links-at words (start-of c) (length-of c))
     ∷ Expression.MemberAccess (link-by a) (name-by file b)
     ∷ Expression.IndexAccess (link-by a) (link-by b)
     ∷ Expression.StructLiteral (name-by file a) b c
-    ∷ Expression.Tuple (links-at words (start-of b) (length-of b))
+    ∷ Expression.Tuple (links-at words (start-of c) (length-of c))
     ∷ Expression.TupleIndex (link-by a) b
-    ∷ Expression.ArrayLiteral (links-at words (start-of b) (length-of b))
+    ∷ Expression.ArrayLiteral (links-at words (start-of c) (length-of c))
     ∷ Expression.ArrayRepeat (link-by a) (size-by b c)
     ∷ Expression.Cast a
     ∷ Expression.New a (link-by b)

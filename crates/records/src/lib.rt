@@ -449,12 +449,12 @@ fn type_expr_of(kind: u32, a: u32, b: u32, c: u32) -> TypeExpr
         2 => TypeExpr::U32,
         3 => TypeExpr::Custom(name_of(a)),
         4 => TypeExpr::Pointer(a),
-        5 => TypeExpr::Tuple(items_of(a)),
+        5 => TypeExpr::Tuple(items_of(c)),
         _ => TypeExpr::FixedArray(a, size_of(b, c)),
     }
 }
 
-fn type_expr_row(words: &[u32], first: u32, i: u32) -> TypeExpr
+pub fn type_expr_row(words: &[u32], first: u32, i: u32) -> TypeExpr
     ensures { λ r. ⌜ ((file : List ℕ) → type-expr-of file (now (words .entry)) r
         ≡ type-expr-row file (now (words .entry)) (first + i)) ⌝ }
 {
@@ -624,13 +624,13 @@ fn expression_of(kind: u32, a: u32, b: u32, c: u32) -> Expression
         2 => Expression::Identifier(name_of(a)),
         3 => Expression::Unary(unary_op(a), expression_link(b)),
         4 => Expression::Binary(binary_op(a), expression_link(b), expression_link(c)),
-        5 => Expression::FunctionCall(expression_link(a), items_of(b)),
+        5 => Expression::FunctionCall(expression_link(a), items_of(c)),
         6 => Expression::MemberAccess(expression_link(a), name_of(b)),
         7 => Expression::IndexAccess(expression_link(a), expression_link(b)),
         8 => Expression::StructLiteral(name_of(a), b, c),
-        9 => Expression::Tuple(items_of(b)),
+        9 => Expression::Tuple(items_of(c)),
         10 => Expression::TupleIndex(expression_link(a), b),
-        11 => Expression::ArrayLiteral(items_of(b)),
+        11 => Expression::ArrayLiteral(items_of(c)),
         12 => Expression::ArrayRepeat(expression_link(a), size_of(b, c)),
         13 => Expression::Cast(a),
         14 => Expression::New(a, expression_link(b)),
@@ -638,7 +638,7 @@ fn expression_of(kind: u32, a: u32, b: u32, c: u32) -> Expression
     }
 }
 
-fn expression_row(words: &[u32], first: u32, i: u32) -> ExpressionInfo
+pub fn expression_row(words: &[u32], first: u32, i: u32) -> ExpressionInfo
     ensures { λ r. ⌜ ((file : List ℕ) → info-of file (now (words .entry)) r
         ≡ expression-row file (now (words .entry)) (first + i)) ⌝ }
 {
@@ -702,7 +702,7 @@ fn question_of(kind: u32, m: u32, a: u32, b: u32) -> Question
     }
 }
 
-fn question_row(words: &[u32], q: u32) -> Question
+pub fn question_row(words: &[u32], q: u32) -> Question
     ensures { λ r. ⌜ question-of r ≡ question-row (now (words .entry)) q ⌝ }
 {
     let at = QUESTIONS + 4 * (q as usize);
