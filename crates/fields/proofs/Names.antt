@@ -5,7 +5,7 @@ use mathlib.Core.List.{[], _∷_}
 use mathlib.Core.Bool.{Bool, true, false, not, _&&_, false≢true}
 use mathlib.Core.Option.{Option, none, some}
 use native.Mathlib.Omega.{arith}
-use lib.ListN.{length, take, drop, getD, drop-of-length-le}
+use lib.ListN.{length, take, drop, getD, length-drop, drop-of-length-le}
 use lib.Seq.{drop-drop}
 use lib.Dec.{leb, ltb}
 use borrow.Author.Tests.{le-leb, lt-leb, eq-eqb, ne-eqb}
@@ -13,6 +13,8 @@ use Rattle.model.specs.Common.{Text, is-empty, eq-numbers}
 use Rattle.model.proofs.Tests.{ltb-lt, ltb-false, eq-numbers-sound}
 use Rattle.format.specs.declared.Kind.{Kind}
 use Rattle.format.specs.Fields.{stops, field-of, behind, only-if, is-dash, all-visible, is-name, Value, absent, text, numbered, number-of, name-value, or-dash, value-of, reading}
+use Rattle.records.specs.Layout.{bytes-at}
+use Rattle.records.proofs.Packing.{each-part}
 use Rattle.words.proofs.Bytes.{here, field-stop, field-more, field-out}
 use Rattle.fields.specs.Held.{field-as, visible-run}
 use Rattle.fields.proofs.Numbers.{behind-at}
@@ -115,6 +117,15 @@ run-take (b ∷ t) = by (visible b) (run-take t)
     by true h = ap (λ (l : Text). b ∷ l) h
     by false h = refl
 
+run-within : (t : Text) → length (visible-run t) ≤ length t
+unfolding visible-run
+run-within [] = omega arith
+run-within (b ∷ t) = by (visible b) (run-within t)
+  where
+    by : (v : Bool) → length (visible-run t) ≤ length t → length {A = ℕ} (elim v [ true ↦ b ∷ visible-run t | false ↦ [] ]) ≤ length (b ∷ t)
+    by true h = omega arith
+    by false h = omega arith
+
 -- ------------------------------------------------------------------ a name
 
 and-false : (a : Bool) → (a && false) ≡ false
@@ -170,14 +181,17 @@ module _ (s : Text) (p : ℕ) where
         ∙ ap (λ a. a && all-visible field && not (is-dash field)) (and-false (leb 1 (length field))))
 
     pub name-is : is-dash field ≡ false → 1 ≤ length run → length run ≤ 64
-        → field-as name-value (drop p s) ≡ some (record { value = text (take (length run) (drop p s)); rest = drop (p + length run) s })
+        → field-as name-value (drop p s) ≡ some (record { value = text (bytes-at s p (length run)); rest = drop (p + length run) s })
     unfolding is-name name-value
     name-is e least most =
         by-place name-value
         ∙ (λ i.
         reading (drop (p + same-length i) s)
         (only-if (le-leb 1 (length field) (omega (arith, same-length)) i && le-leb (length field) 64 (omega (arith, same-length)) i && is-named .is-visible i && not (e i)) (text (is-named .is-run i))))
-        ∙ ap (λ t. some (record { value = text t; rest = drop (p + length run) s })) (sym (run-take (drop p s)))
+        ∙ ap (λ t. some (record { value = text t; rest = drop (p + length run) s })) (sym (each-part s p (length run) inside ∙ run-take (drop p s)))
+      where
+        inside : p + length run ≤ length s
+        inside = omega (arith, run-within (drop p s), length-drop p s, least)
 
 -- ------------------------------------------------------------------ `-`
 

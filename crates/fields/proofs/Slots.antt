@@ -1,9 +1,9 @@
 -- A field by its kind, from a position in the file. Assumes nothing.
 use Prim.Native.Nat.{ℕ, suc, _+_, _-_, _≤_, _<_}
 use mathlib.Core.Path.{_≡_, refl, sym, ap, _∙_}
-use mathlib.Core.List.{List, [], _∷_}
+use mathlib.Core.List.{[], _∷_}
 use mathlib.Core.Bool.{Bool, true, false}
-use mathlib.Core.Option.{none, some}
+use mathlib.Core.Option.{Option, none, some}
 use native.Mathlib.Omega.{arith}
 use lib.ListN.{length, take, drop, getD, length-drop, drop-of-length-le}
 use borrow.Author.Tests.{eq-eqb, ne-eqb}
@@ -12,9 +12,9 @@ use Rattle.format.specs.declared.Kind.{Kind}
 use Rattle.format.specs.Words.{is-keyword, place-in, unary-op-words, binary-op-words}
 use Rattle.format.specs.Fields.{stops, field-of, behind, is-name, plain-number, number-of, Value, absent, numbered, name-value, or-dash, value-of, Read, reading, behind-tab, slot-field, is-nothing, slot}
 use Rattle.words.specs.declared.Found.{Found}
-use Rattle.words.specs.Packed.{place-among, words-in, packed, found-is}
+use Rattle.words.specs.Packed.{candidate-place, found-is}
 use Rattle.words.proofs.Bytes.{here}
-use Rattle.words.proofs.Keywords.{packed-place}
+use Rattle.words.proofs.Tables.{maps, candidate-first}
 use Rattle.format.specs.Tails.{three}
 use Rattle.format.specs.Lines.{word-here}
 use Rattle.fields.specs.declared.Value as held
@@ -24,7 +24,7 @@ use Rattle.fields.proofs.Numbers.{behind-at}
 
 -- ------------------------------------------------------------------ the bytes of a field
 
-field-take : (t : Text) → take (length (field-of t)) t ≡ field-of t
+pub field-take : (t : Text) → take (length (field-of t)) t ≡ field-of t
 unfolding field-of
 field-take [] = refl
 field-take (b ∷ t) = by (stops b) (field-take t)
@@ -49,26 +49,18 @@ field-fits s p h = omega (arith, field-within (drop p s), length-drop p s)
 
 -- ------------------------------------------------------------------ an operator
 
-module _ (s : Text) (p e : ℕ) (words : List Text) (r : Found) where
-  pub operator-is : e ≡ p + length (field-of (drop p s)) → found-is r ≡ place-among words (take (e - p) (drop p s))
-      → field-as (λ t. numbered (place-among words t)) (drop p s) ≡ reading (drop e s) (numbered (found-is r))
+module _ (s : Text) (p e : ℕ) (table map : Text) (r : Found) where
+  pub operator-is : e ≡ p + length (field-of (drop p s)) → found-is r ≡ candidate-place table map (take (e - p) (drop p s))
+      → field-as (λ t. numbered (candidate-place table map t)) (drop p s) ≡ reading (drop e s) (numbered (found-is r))
   unfolding field-as
   operator-is q found =
       sym
       ((λ i. reading (drop (q i) s) (numbered (found i)))
-      ∙ ap (λ n. reading (drop (p + length (field-of (drop p s))) s) (numbered (place-among words (take n (drop p s))))) same-length
-      ∙ (λ i. reading (sym (behind-at s p) i) (numbered (place-among words (field-take (drop p s) i)))))
+      ∙ ap (λ n. reading (drop (p + length (field-of (drop p s))) s) (numbered (candidate-place table map (take n (drop p s))))) same-length
+      ∙ (λ i. reading (sym (behind-at s p) i) (numbered (candidate-place table map (field-take (drop p s) i)))))
     where
       same-length : e - p ≡ length (field-of (drop p s))
       same-length = omega (arith, q)
-
-pub unary-op-is : (t : Text) → field-as (λ u. numbered (place-among (words-in (packed unary-op-words)) u)) t ≡ field-as (value-of Kind.UnaryOp) t
-unfolding field-as value-of
-unary-op-is t = ap (λ o. reading (behind t) (numbered o)) (packed-place unary-op-words (field-of t))
-
-pub binary-op-is : (t : Text) → field-as (λ u. numbered (place-among (words-in (packed binary-op-words)) u)) t ≡ field-as (value-of Kind.BinaryOp) t
-unfolding field-as value-of
-binary-op-is t = ap (λ o. reading (behind t) (numbered o)) (packed-place binary-op-words (field-of t))
 
 -- ------------------------------------------------------------------ a field of a kind
 
@@ -98,6 +90,16 @@ nothing-wrong t = refl
 pub of-kind : (k known : Kind) (t : Text) → k ≡ known → field-as (value-of known) t ≡ field-as (value-of k) t
 of-kind k known t q = ap (λ j. field-as (value-of j) t) (sym q)
 
+-- with a map that is right for the table
+module _ (t table map : Text) (k : Kind) (x : Option Read) (is : x ≡ field-as (λ u. numbered (candidate-place table map u)) t) where
+  pub unary-op-is : maps table map unary-op-words ≡ true → k ≡ Kind.UnaryOp → x ≡ field-as (value-of k) t
+  unfolding field-as value-of
+  unary-op-is right h = is ∙ ap (λ o. reading (behind t) (numbered o)) (candidate-first table map (field-of t) unary-op-words right) ∙ of-kind k Kind.UnaryOp t h
+
+  pub binary-op-is : maps table map binary-op-words ≡ true → k ≡ Kind.BinaryOp → x ≡ field-as (value-of k) t
+  unfolding field-as value-of
+  binary-op-is right h = is ∙ ap (λ o. reading (behind t) (numbered o)) (candidate-first table map (field-of t) binary-op-words right) ∙ of-kind k Kind.BinaryOp t h
+
 -- ------------------------------------------------------------------ a field behind a tab
 
 module _ (k : Kind) (s : Text) (e : ℕ) where
@@ -121,33 +123,14 @@ module _ (k : Kind) (s : Text) (e : ℕ) where
   unfolding slot-field behind-tab field-as
   slot-is-field q h n = slot-some q ∙ rw (here s e h, eq-eqb (getD s e 0) 9 n, behind-tab)
 
--- ------------------------------------------------------------------ three fields
+-- ------------------------------------------------------------------ what the definition reads where the code has read a field, and where it has not
 
--- what the definition reads where the code has read a field, and where it has not
 module _ (s t : Text) (k : Kind) (r : Slot) (q : slot-is s r ≡ slot k t) where
   pub slot-found : (v : held.Value) (e : ℕ) → r ≡ Slot.Is v e → slot k t ≡ some (record { value = value-is s v; rest = drop e s })
   slot-found v e h = sym q ∙ ap (slot-is s) h
 
   pub slot-lost : r ≡ Slot.Wrong → slot k t ≡ none
   slot-lost h = sym q ∙ ap (slot-is s) h
-
-module _ (ka kb kc : Kind) (t : Text) where
-  pub no-first : slot ka t ≡ none → three ka kb kc t ≡ none
-  unfolding three
-  no-first p = rw p
-
-  pub no-second : (x : Read) → slot ka t ≡ some x → slot kb (x .rest) ≡ none → three ka kb kc t ≡ none
-  unfolding three
-  no-second x p q = rw (p, q)
-
-  pub no-third : (x y : Read) → slot ka t ≡ some x → slot kb (x .rest) ≡ some y → slot kc (y .rest) ≡ none → three ka kb kc t ≡ none
-  unfolding three
-  no-third x y p q r = rw (p, q, r)
-
-  pub all-three : (x y z : Read) → slot ka t ≡ some x → slot kb (x .rest) ≡ some y → slot kc (y .rest) ≡ some z
-      → three ka kb kc t ≡ some (record { a = x .value; b = y .value; c = z .value; rest = z .rest })
-  unfolding three
-  all-three x y z p q r = rw (p, q, r)
 
 -- ------------------------------------------------------------------ a word behind a tab
 

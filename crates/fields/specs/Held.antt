@@ -7,26 +7,21 @@ use mathlib.Core.Option.{Option, none, some}
 use lib.Dec.{leb}
 use lib.ListN.{length, take, drop}
 use Rattle.model.specs.Common.{Text, let-some}
+use Rattle.records.specs.Layout.{bytes-at}
 use Rattle.format.specs.Fields as format
 use Rattle.fields.specs.declared.Value.{Value}
-use Rattle.format.specs.Tails as tails
 use Rattle.format.specs.Lines as lines
 use Rattle.fields.specs.declared.Slot.{Slot}
-use Rattle.fields.specs.declared.Three.{Three}
 use Rattle.fields.specs.declared.Word.{Word}
 
 abbrev pub value-is : Text → Value → format.Value
 value-is s Value.Absent = format.Value.absent
 value-is s (Value.Number n) = format.Value.number n
-value-is s (Value.Text p n) = format.Value.text (take n (drop p s))
+value-is s (Value.Text p n) = format.Value.text (bytes-at s p n)
 
 abbrev pub slot-is : Text → Slot → Option format.Read
 slot-is s (Slot.Is v e) = some (record { value = value-is s v; rest = drop e s })
 slot-is s Slot.Wrong = none
-
-abbrev pub three-is : Text → Three → Option tails.Three
-three-is s (Three.Are a b c e) = some (record { a = value-is s a; b = value-is s b; c = value-is s c; rest = drop e s })
-three-is s Three.Wrong = none
 
 abbrev pub word-is : Text → Word → Option lines.WordRead
 word-is s (Word.Is p e) = some (record { word = take (e - p) (drop p s); rest = drop e s })

@@ -5,9 +5,8 @@ ghost use lib.ListN.{length, drop};
 ghost use Rattle.model.specs.Common.{is-empty};
 ghost use Rattle.format.specs.Fields.{field-of, is-dash, number-of, numbered, name-value, value-of, is-nothing, slot};
 ghost use Rattle.format.specs.declared.Kind.{Kind};
-ghost use Rattle.words.specs.Packed.{place-among, words-in};
-ghost use Rattle.format.specs.Tails.{three};
-ghost use Rattle.fields.specs.Held.{IsWord, slot-is, three-is, field-as, scanned, visible-run};
+ghost use Rattle.words.specs.Packed.{candidate-place};
+ghost use Rattle.fields.specs.Held.{IsWord, slot-is, field-as, scanned, visible-run};
 use format::Kind;
 use words::Found;
 use words::field_end;
@@ -23,12 +22,6 @@ pub enum Value {
 // A field that was read, and where it ends.
 pub enum Slot {
     Is(Value, usize),
-    Wrong,
-}
-
-// Three fields that were read, and where they end.
-pub enum Three {
-    Are(Value, Value, Value, usize),
     Wrong,
 }
 
@@ -190,13 +183,13 @@ fn unused_at(file: &[u8], from: usize) -> Slot
     Slot::Wrong
 }
 
-// The word of a table that the field is, by its place. (A table is a byte string as in the crate `words`.)
-fn operator_at(file: &[u8], from: usize, table: &[u8]) -> Slot
+// The word of a table that the field is, by its place. (A table and its map are byte strings as in the crate `words`.)
+fn operator_at(file: &[u8], from: usize, table: &[u8], map: &[u8; 32]) -> Slot
     requires { ⌜ from ≤ length (now file) ⌝ }
-    ensures { λ r. ⌜ slot-is (now (file .entry)) r ≡ field-as (λ t. numbered (place-among (words-in (now (table .entry))) t)) (drop from (now (file .entry))) ⌝ }
+    ensures { λ r. ⌜ slot-is (now (file .entry)) r ≡ field-as (λ t. numbered (candidate-place (now (table .entry)) (now (map .entry)) t)) (drop from (now (file .entry))) ⌝ }
 {
     let end = field_end(file, from);
-    match find_word(&file[from..end], table) {
+    match find_word(&file[from..end], table, map) {
         Found::At(k) => Slot::Is(Value::Number(k as u64), end),
         Found::Nothing => Slot::Wrong,
     }
@@ -217,11 +210,17 @@ pub fn value_at(file: &[u8], kind: Kind, from: usize) -> Slot
         Kind::Size => number_at(file, from, SIZE),
         Kind::Name => name_at(file, from),
         Kind::MaybeName => maybe_name_at(file, from),
-        Kind::UnaryOp => operator_at(file, from, b"\x01!\x01-"),
+        Kind::UnaryOp => operator_at(
+            file,
+            from,
+            b"\x01!\0\0\0\0\0\0\0\x01-\0\0\0\0\0\0\0",
+            b"\0\0\0\0\0\0\0\0\x01\0\0\0\0\0\0\0\0\0\0\0\0\0\0\0\0\0\0\0\0\0\0\0",
+        ),
         Kind::BinaryOp => operator_at(
             file,
             from,
-            b"\x01+\x01-\x01*\x01/\x01%\x02==\x02!=\x01<\x01>\x02<=\x02>=\x02&&\x02||\x01&\x01|\x01^",
+            b"\x01+\0\0\0\0\0\0\0\x01-\0\0\0\0\0\0\0\x01*\0\0\0\0\0\0\0\x01/\0\0\0\0\0\0\0\x01%\0\0\0\0\0\0\0\x02==\0\0\0\0\0\0\x02!=\0\0\0\0\0\0\x01<\0\0\0\0\0\0\0\x01>\0\0\0\0\0\0\0\x02<=\0\0\0\0\0\0\x02>=\0\0\0\0\0\0\x02&&\0\0\0\0\0\0\x02||\0\0\0\0\0\0\x01&\0\0\0\0\0\0\0\x01|\0\0\0\0\0\0\0\x01^\0\0\0\0\0\0\0",
+            b"\x0a\0\0\x08\x0e\0\x0c\0\x01\0\0\x0f\0\0\x04\0\0\x06\x02\0\x07\x0d\x03\x0b\0\0\0\x09\0\0\x05\0",
         ),
         Kind::Unused => unused_at(file, from),
     }
@@ -261,22 +260,7 @@ pub fn read_slot(file: &[u8], kind: Kind, at: usize) -> Slot
     value_at(file, kind, at + 1)
 }
 
-// ---- fields one after the other
-
-pub fn three_slots(file: &[u8], ka: Kind, kb: Kind, kc: Kind, at: usize) -> Three
-    ensures { λ r. ⌜ three-is (now (file .entry)) r ≡ three ka kb kc (drop at (now (file .entry))) ⌝ }
-{
-    match read_slot(file, ka, at) {
-        Slot::Is(a, after_a) => match read_slot(file, kb, after_a) {
-            Slot::Is(b, after_b) => match read_slot(file, kc, after_b) {
-                Slot::Is(c, end) => Three::Are(a, b, c, end),
-                Slot::Wrong => Three::Wrong,
-            },
-            Slot::Wrong => Three::Wrong,
-        },
-        Slot::Wrong => Three::Wrong,
-    }
-}
+// ---- a word
 
 pub fn word_here(file: &[u8], at: usize) -> Word
     ensures { λ r. ⌜ IsWord (now (file .entry)) at r ⌝ }

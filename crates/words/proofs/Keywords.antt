@@ -1,50 +1,30 @@
--- A table of keywords of the definition and the byte string that the code searches: the same words in the same order. Assumes nothing.
+-- The word of a table of the definition that a field is, by its place in the byte string that the code has for the table. Assumes nothing.
 use Prim.Native.Nat.{ℕ, zero, suc, _≤_, _<_}
 use mathlib.Core.Path.{_≡_, refl, sym, ap, _∙_}
-use mathlib.Core.List.{List, [], _∷_, _++_, map}
+use mathlib.Core.List.{List, [], _∷_}
+use mathlib.Core.Bool.{Bool, true, false}
 use mathlib.Core.Option.{none, some}
 use native.Mathlib.Omega.{arith}
 use native.Mathlib.Nat.{not-suc-le-zero, le-of-suc-le-suc}
-use lib.ListN.{length, take, getElem?, length-append, length-take}
-use lib.Seq.{take-append-seam, drop-append-seam}
+use lib.ListN.{length, take, getElem?, length-take}
 use Rattle.format.specs.Load.{first-lines, first-line-length, version-of}
-use Rattle.model.specs.Common.{Text, bytes, let-some, if_then_else_, next, first, eq-numbers}
+use Rattle.model.specs.Common.{Text, bytes, let-some, if_then_else_, first, eq-numbers}
 use Rattle.format.specs.Words.{Keyword, is-keyword, place-in, word-at, word-in}
 use Rattle.words.specs.declared.Found.{Found}
-use Rattle.words.specs.Packed.{words-within, words-in, packed, place-among, found-is}
-use Rattle.words.proofs.Tables.{words-cons, other-length}
+use Rattle.words.specs.Packed.{candidate-place, found-is}
+use Rattle.words.proofs.Tables.{maps, candidate-first, other-length}
 
--- the search through the texts of a table is the search through the table
-texts-place : {A : Type 0} (table : List (Keyword A)) (field : Text) → place-among (map (λ k. k .text) table) field ≡ place-in table field
-unfolding place-among place-in first is-keyword
-texts-place [] field = refl
-texts-place (k ∷ ks) field = ap (λ o. if eq-numbers field (k .text) then some 0 else next o) (texts-place ks field)
-
--- what is packed is found again
-packed-words : {A : Type 0} (table : List (Keyword A)) → words-in (packed table) ≡ map (λ k. k .text) table
-unfolding packed words-in words-within
-packed-words [] = refl
-packed-words (k ∷ ks) =
-    words-cons (length (k .text)) (k .text ++ packed ks) (omega (arith, length-append (k .text) (packed ks)))
-    ∙ (λ i. take-append-seam (k .text) (packed ks) i ∷ words-in (drop-append-seam (k .text) (packed ks) i))
-    ∙ ap (λ (l : List Text). k .text ∷ l) (packed-words ks)
-
--- the search through the byte string is the search through the table
-pub packed-place : {A : Type 0} (table : List (Keyword A)) (field : Text) → place-among (words-in (packed table)) field ≡ place-in table field
-packed-place table field = ap (λ ws. place-among ws field) (packed-words table) ∙ texts-place table field
-
-module _ {A : Type 0} (table : List (Keyword A)) where
-  -- a word that was found, and none
-  pub word-found : (other : A) (field : Text) (r : Found) (k : ℕ) (w : A) → found-is r ≡ place-among (words-in (packed table)) field → r ≡ Found.At k
-      → w ≡ word-at table other k → w ≡ word-in table other field
+-- what was found by a map that is right for the table: a word, and none
+module _ {A : Type 0} (words : List (Keyword A)) (other : A) (table map field : Text) (r : Found) (found : found-is r ≡ candidate-place table map field) (right : maps table map words ≡ true) where
+  pub word-found : (k : ℕ) (w : A) → r ≡ Found.At k → w ≡ word-at words other k → w ≡ word-in words other field
   unfolding word-in
-  word-found other field r k w found is-at is-word =
-      is-word ∙ ap (λ o. let-some o other λ n. word-at table other n) (ap found-is (sym is-at) ∙ found ∙ packed-place table field)
+  word-found k w is-at is-word =
+      is-word ∙ ap (λ o. let-some o other λ n. word-at words other n) (ap found-is (sym is-at) ∙ found ∙ candidate-first table map field words right)
 
-  pub word-missing : (other : A) (field : Text) (r : Found) → found-is r ≡ place-among (words-in (packed table)) field → r ≡ Found.Nothing → other ≡ word-in table other field
+  pub word-missing : r ≡ Found.Nothing → other ≡ word-in words other field
   unfolding word-in
-  word-missing other field r found is-nothing =
-      ap (λ o. let-some o other λ n. word-at table other n) (ap found-is (sym is-nothing) ∙ found ∙ packed-place table field)
+  word-missing is-nothing =
+      ap (λ o. let-some o other λ n. word-at words other n) (ap found-is (sym is-nothing) ∙ found ∙ candidate-first table map field words right)
 
 -- ------------------------------------------------------------------ the word at a place
 
@@ -84,14 +64,8 @@ version-short file h = rw (other-length (begin file) (bytes "index\t1\n") differ
     differs : length (begin file) ≡ 8 → ⊥
     differs e = omega (arith, length-take 8 file, e)
 
-module _ (file : Text) (r : Found) (found : found-is r ≡ place-among (words-in (packed first-lines)) (begin file)) where
-  pub version-missing : r ≡ Found.Nothing → none ≡ version-of file
-  unfolding version-of
-  version-missing h =
-      ap (λ o. let-some o none λ n. some (word-at first-lines 0 n)) (ap found-is (sym h) ∙ found ∙ packed-place first-lines (begin file))
-
-  pub version-found : (k v : ℕ) → r ≡ Found.At k → v ≡ word-at first-lines 0 k → some v ≡ version-of file
-  unfolding version-of
-  version-found k v h w =
-      ap some w
-      ∙ ap (λ o. let-some o none λ n. some (word-at first-lines 0 n)) (ap found-is (sym h) ∙ found ∙ packed-place first-lines (begin file))
+-- there is one first line
+pub version-by : (file : Text) (b : Bool) → b ≡ eq-numbers (begin file) (bytes "index\t1\n") → (if b then some 1 else none) ≡ version-of file
+unfolding version-of place-in first is-keyword word-at
+version-by file true e = ap (λ b. let-some (if b then some 0 else none) none λ n. some (word-at first-lines 0 n)) e
+version-by file false e = ap (λ b. let-some (if b then some 0 else none) none λ n. some (word-at first-lines 0 n)) e

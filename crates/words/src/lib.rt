@@ -1,6 +1,9 @@
-// Where a field ends, and which word of a table it is. A table is a fixed byte string: each word behind its length.
+// Where a field ends, and which word of a table it is.
+//
+// A table is a fixed byte string with nine bytes for each word: the word's length, the word, and zeros. Beside it stands a map: for each hash
+// the place of the one word of the table that has it (any place, where none has). So a field is compared with one word only.
 ghost use mathlib.Core.Path.{_≡_};
-ghost use Prim.Native.Nat.{_+_, _≤_};
+ghost use Prim.Native.Nat.{_+_, _≤_, _<_};
 ghost use lib.ListN.{length, take, drop};
 ghost use Rattle.model.specs.Common.{eq-numbers};
 ghost use Rattle.format.specs.Fields.{field-of};
@@ -12,8 +15,8 @@ ghost use Rattle.format.specs.declared.DefinitionWord.{DefinitionWord};
 ghost use Rattle.format.specs.declared.OriginWord.{OriginWord};
 ghost use Rattle.format.specs.declared.NodeWord.{NodeWord};
 ghost use Rattle.format.specs.declared.QuestionWord.{QuestionWord};
-ghost use Rattle.format.specs.Load.{first-lines, version-of};
-ghost use Rattle.words.specs.Packed.{found-is, version-is, place-among, words-in};
+ghost use Rattle.format.specs.Load.{version-of};
+ghost use Rattle.words.specs.Packed.{found-is, version-is, hash-of, candidate-place};
 use format::DefinitionWord;
 use format::LineWord;
 use format::NodeWord;
@@ -73,28 +76,42 @@ fn same_word(word: &[u8], table: &[u8], at: usize, n: usize) -> bool
 }
 
 fn wide(b: u8) -> usize
-    ensures { λ r. ⌜ r ≡ b ⌝ }
+    ensures { λ r. ⌜ (r ≡ b) × (r < 256) ⌝ }
 {
     b as usize
 }
 
-// The place of the first word of the table that the field is.
-pub fn find_word(field: &[u8], table: &[u8]) -> Found
-    ensures { λ r. ⌜ found-is r ≡ place-among (words-in (now (table .entry))) (now (field .entry)) ⌝ }
+// A number below 32 from the field's first byte, last byte and length. The factors are such that no two words of a table have the same one:
+// else no map would be right for that table.
+fn hash(field: &[u8]) -> usize
+    ensures { λ r. ⌜ r ≡ hash-of (now (field .entry)) ⌝ }
 {
-    let mut at = 0;
-    let mut k = 0;
-    while at < table.len() {
-        let n = wide(table[at]);
-        let from = at + 1;
-        if table.len() - from < n {
-            return Found::Nothing;
-        }
-        if same_word(field, table, from, n) {
-            return Found::At(k);
-        }
-        at = from + n;
-        k += 1;
+    let n = field.len();
+    if n < 1 {
+        return 0;
+    }
+    let first = wide(field[0]);
+    let last = wide(field[n - 1]);
+    (22 * first + 36 * last + 15 * (n % 4)) / 8 % 32
+}
+
+// The place of the word of the table that the field is: of the one that the map gives for the field's hash, if that is the field.
+pub fn find_word(field: &[u8], table: &[u8], map: &[u8; 32]) -> Found
+    ensures { λ r. ⌜ found-is r ≡ candidate-place (now (table .entry)) (now (map .entry)) (now (field .entry)) ⌝ }
+{
+    let h = hash(field);
+    let k = wide(map[h]);
+    let at = k * 9;
+    if table.len() <= at {
+        return Found::Nothing;
+    }
+    let n = wide(table[at]);
+    let from = at + 1;
+    if table.len() - from < n {
+        return Found::Nothing;
+    }
+    if same_word(field, table, from, n) {
+        return Found::At(k);
     }
     Found::Nothing
 }
@@ -118,7 +135,11 @@ fn line_word_at(k: usize) -> LineWord
 pub fn line_word(field: &[u8]) -> LineWord
     ensures { λ r. ⌜ r ≡ line-word-of (now (field .entry)) ⌝ }
 {
-    match find_word(field, b"\x01M\x01S\x01T\x01D\x01E\x01Q") {
+    match find_word(
+        field,
+        b"\x01M\0\0\0\0\0\0\0\x01S\0\0\0\0\0\0\0\x01T\0\0\0\0\0\0\0\x01D\0\0\0\0\0\0\0\x01E\0\0\0\0\0\0\0\x01Q\0\0\0\0\0\0\0",
+        b"\0\0\x02\0\0\0\0\0\0\0\0\0\0\x05\x03\0\0\0\0\0\0\0\x04\0\0\0\0\x01\0\0\0\0",
+    ) {
         Found::At(k) => line_word_at(k),
         Found::Nothing => LineWord::Other,
     }
@@ -139,7 +160,11 @@ fn scope_word_at(k: usize) -> ScopeWord
 pub fn scope_word(field: &[u8]) -> ScopeWord
     ensures { λ r. ⌜ r ≡ scope-word-of (now (field .entry)) ⌝ }
 {
-    match find_word(field, b"\x06module\x08function\x05block\x04loop") {
+    match find_word(
+        field,
+        b"\x06module\0\0\x08function\x05block\0\0\0\x04loop\0\0\0\0",
+        b"\0\x03\0\0\0\0\0\x01\0\0\0\0\0\0\0\0\x02\0\0\0\0\0\0\0\0\0\0\0\0\0\0\0",
+    ) {
         Found::At(k) => scope_word_at(k),
         Found::Nothing => ScopeWord::Other,
     }
@@ -165,7 +190,8 @@ pub fn type_word(field: &[u8]) -> TypeWord
 {
     match find_word(
         field,
-        b"\x04felt\x04bool\x03u32\x06custom\x03ptr\x05tuple\x05array",
+        b"\x04felt\0\0\0\0\x04bool\0\0\0\0\x03u32\0\0\0\0\0\x06custom\0\0\x03ptr\0\0\0\0\0\x05tuple\0\0\0\x05array\0\0\0",
+        b"\0\0\0\0\0\0\0\x05\x02\0\0\0\0\x06\0\0\0\0\0\x01\0\0\0\0\0\0\x04\0\0\0\x03\0",
     ) {
         Found::At(k) => type_word_at(k),
         Found::Nothing => TypeWord::Other,
@@ -192,7 +218,8 @@ pub fn definition_word(field: &[u8]) -> DefinitionWord
 {
     match find_word(
         field,
-        b"\x02fn\x06struct\x05const\x03let\x05param\x03use\x04loop",
+        b"\x02fn\0\0\0\0\0\0\x06struct\0\0\x05const\0\0\0\x03let\0\0\0\0\0\x05param\0\0\0\x03use\0\0\0\0\0\x04loop\0\0\0\0",
+        b"\x04\x06\0\0\0\0\0\0\0\0\x01\0\0\x05\0\0\0\0\0\0\0\0\0\0\x03\0\0\0\x02\0\0\0",
     ) {
         Found::At(k) => definition_word_at(k),
         Found::Nothing => DefinitionWord::Other,
@@ -218,7 +245,8 @@ pub fn origin_word(field: &[u8]) -> OriginWord
 {
     match find_word(
         field,
-        b"\x05plain\x05field\x03arg\x06assign\x06return\x04cond",
+        b"\x05plain\0\0\0\x05field\0\0\0\x03arg\0\0\0\0\0\x06assign\0\0\x06return\0\0\x04cond\0\0\0\0",
+        b"\0\0\0\0\0\0\0\0\0\0\0\0\x04\0\0\0\0\0\x05\0\0\0\0\0\0\0\0\0\x01\x03\0\x02",
     ) {
         Found::At(k) => origin_word_at(k),
         Found::Nothing => OriginWord::Other,
@@ -254,7 +282,8 @@ pub fn node_word(field: &[u8]) -> NodeWord
 {
     match find_word(
         field,
-        b"\x03lit\x04bool\x05ident\x02un\x03bin\x04call\x06member\x05index\x04slit\x05tuple\x04tidx\x03arr\x03rep\x04cast\x03new\x05paren",
+        b"\x03lit\0\0\0\0\0\x04bool\0\0\0\0\x05ident\0\0\0\x02un\0\0\0\0\0\0\x03bin\0\0\0\0\0\x04call\0\0\0\0\x06member\0\0\x05index\0\0\0\x04slit\0\0\0\0\x05tuple\0\0\0\x04tidx\0\0\0\0\x03arr\0\0\0\0\0\x03rep\0\0\0\0\0\x04cast\0\0\0\0\x03new\0\0\0\0\0\x05paren\0\0\0",
+        b"\0\0\x04\0\x0f\0\x08\x09\0\0\0\x0e\x02\0\0\0\x06\x0b\0\x01\x03\0\x05\x0c\0\0\x0d\x0a\0\0\x07\0",
     ) {
         Found::At(k) => node_word_at(k),
         Found::Nothing => NodeWord::Other,
@@ -275,7 +304,11 @@ fn question_word_at(k: usize) -> QuestionWord
 pub fn question_word(field: &[u8]) -> QuestionWord
     ensures { λ r. ⌜ r ≡ question-word-of (now (field .entry)) ⌝ }
 {
-    match find_word(field, b"\x04expr\x03def\x04type") {
+    match find_word(
+        field,
+        b"\x04expr\0\0\0\0\x03def\0\0\0\0\0\x04type\0\0\0\0",
+        b"\0\0\0\x01\0\x02\0\0\0\0\0\0\0\0\0\0\0\0\0\0\0\0\0\0\0\0\0\0\0\0\0\0",
+    ) {
         Found::At(k) => question_word_at(k),
         Found::Nothing => QuestionWord::Other,
     }
@@ -283,23 +316,14 @@ pub fn question_word(field: &[u8]) -> QuestionWord
 
 // ---- the first line, LF included
 
-fn version_at(k: usize) -> u32
-    ensures { λ r. ⌜ r ≡ word-at first-lines 0 k ⌝ }
-{
-    match k {
-        0 => 1,
-        _ => 0,
-    }
-}
-
 pub fn version_of(file: &[u8]) -> Version
     ensures { λ r. ⌜ version-is r ≡ version-of (now (file .entry)) ⌝ }
 {
     if file.len() < 8 {
         return Version::Missing;
     }
-    match find_word(&file[0..8], b"\x08index\t1\n") {
-        Found::At(k) => Version::Is(version_at(k)),
-        Found::Nothing => Version::Missing,
+    if same_word(&file[0..8], b"index\t1\n", 0, 8) {
+        return Version::Is(1);
     }
+    Version::Missing
 }

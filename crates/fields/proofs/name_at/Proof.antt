@@ -2,8 +2,9 @@
 use Prim.Native.Nat.{_+_, _-_}
 use mathlib.Core.Path.{_≡_, sym, ap, _∙_}
 use mathlib.Core.Option.{some}
-use lib.ListN.{length, take, drop}
+use lib.ListN.{length, drop}
 use Rattle.model.specs.Common.{is-empty}
+use Rattle.records.specs.Layout.{bytes-at}
 use Rattle.format.specs.Fields.{field-of, text}
 use Rattle.fields.specs.Held.{visible-run}
 use native.Mathlib.Omega.{arith}
@@ -77,7 +78,7 @@ returns-5 c =
     let q = c .before .before .before .before .visible-end .ensures in
     let ends = is-empty-of s (p + length (visible-run (drop p s))) (ap (λ n. is-empty (field-of (drop n s))) (sym q) ∙ sym (c .before .before .before .is-end .ensures) ∙ not-no _ (c .before .before .if2 .left)) in
     let m : c .before .before .before .before .visible-end .result - p ≡ length (visible-run (drop p s)) = omega (arith, q) in
-    (λ i. some (record { value = text (take (m i) (drop p s)); rest = drop (q i) s }))
+    (λ i. some (record { value = text (bytes-at s p (m i)); rest = drop (q i) s }))
     ∙ sym (name-is s p ends (sym (c .before .before .before .before .before .before .is-dash-at .ensures) ∙ c .before .before .before .before .before .if1 .left) (omega (arith, q)) (omega (arith, q)))
 
 pub name-at-spec : {M : Type 1} → statement M

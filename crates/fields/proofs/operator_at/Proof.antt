@@ -49,7 +49,7 @@ returns c =
     let a = c .before .before .before .before .before .before .before .before .args in
     let s = a .file .now in
     sym
-    (operator-is s (a .from) _ _ (c .before .before .before .find-word .result) (c .before .before .before .before .before .field-end .ensures) (c .before .before .before .find-word .ensures)
+    (operator-is s (a .from) _ _ _ (c .before .before .before .find-word .result) (c .before .before .before .before .before .field-end .ensures) (c .before .before .before .find-word .ensures)
     ∙ ap (λ r. reading (drop (c .before .before .before .before .before .field-end .result) s) (numbered (found-is r))) (c .before .k .given .1))
 
 -- src/lib.rt:177:1
@@ -58,7 +58,7 @@ returns-2 c =
     let a = c .before .before .before .before .before .before .before .args in
     let s = a .file .now in
     sym
-    (operator-is s (a .from) _ _ (c .before .before .find-word .result) (c .before .before .before .before .field-end .ensures) (c .before .before .find-word .ensures)
+    (operator-is s (a .from) _ _ _ (c .before .before .find-word .result) (c .before .before .before .before .field-end .ensures) (c .before .before .find-word .ensures)
     ∙ ap (λ r. reading (drop (c .before .before .before .before .field-end .result) s) (numbered (found-is r))) (c .enum-told .given .1))
 
 pub operator-at-spec : {M : Type 1} → statement M

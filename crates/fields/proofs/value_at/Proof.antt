@@ -1,10 +1,11 @@
 -- `fields::value_at` meets its contract. Assumes nothing.
-use mathlib.Core.Path.{sym, _∙_}
+use mathlib.Core.Path.{refl, sym, _∙_}
 use native.Mathlib.Omega.{arith}
 use lib.ListN.{drop}
+use Rattle.model.specs.Common.{eq-numbers}
 use Rattle.format.specs.declared.Kind.{Kind}
 use Rattle.format.specs.Fields.{value-of}
-use Rattle.words.specs.Packed.{packed}
+use Rattle.words.proofs.Tables.{maps-from}
 use Rattle.fields.proofs.Numbers.{is-empty-of, begins-here}
 use Rattle.fields.proofs.Slots.{empty-wrong, nothing-wrong, of-kind, unary-op-is, binary-op-is}
 use borrow.Author.Needs.{needs}
@@ -93,8 +94,8 @@ slice-aggregate-operator-at c = search needs
 -- src/lib.rt:203:26
 operator-at-requires : tie.Need-operator-at-requires
 operator-at-requires c κs =
-    let a = c .before .before .before .before .before .before .args in
-    omega (arith, begins-here (a .file .now) (a .from) (sym (c .before .before .before .before .is-end .ensures) ∙ c .before .before .before .if1 .left))
+    let a = c .before .before .before .before .before .before .before .args in
+    omega (arith, begins-here (a .file .now) (a .from) (sym (c .before .before .before .before .before .is-end .ensures) ∙ c .before .before .before .before .if1 .left))
 
 -- src/lib.rt:204:51
 enum-told-9 : tie.Need-enum-told-9
@@ -107,8 +108,8 @@ slice-aggregate-operator-at-2 c = search needs
 -- src/lib.rt:204:27
 operator-at-requires-2 : tie.Need-operator-at-requires-2
 operator-at-requires-2 c κs =
-    let a = c .before .before .before .before .before .before .args in
-    omega (arith, begins-here (a .file .now) (a .from) (sym (c .before .before .before .before .is-end .ensures) ∙ c .before .before .before .if1 .left))
+    let a = c .before .before .before .before .before .before .before .args in
+    omega (arith, begins-here (a .file .now) (a .from) (sym (c .before .before .before .before .before .is-end .ensures) ∙ c .before .before .before .before .if1 .left))
 
 -- src/lib.rt:205:25
 enum-told-10 : tie.Need-enum-told-10
@@ -166,19 +167,17 @@ returns-8 c =
 
 -- src/lib.rt:189:1
 returns-9 : tie.Need-returns-9
-unfolding packed
+unfolding maps-from eq-numbers
 returns-9 c =
-    let a = c .before .before .before .before .before .before .before .args in
-    let t = drop (a .from) (a .file .now) in
-    c .operator-at .ensures ∙ unary-op-is t ∙ of-kind (a .kind) Kind.UnaryOp t (c .before .before .enum-told8 .given .1)
+    let a = c .before .before .before .before .before .before .before .before .args in
+    unary-op-is (drop (a .from) (a .file .now)) _ _ (a .kind) _ (c .operator-at .ensures) refl (c .before .before .before .enum-told8 .given .1)
 
 -- src/lib.rt:189:1
 returns-10 : tie.Need-returns-10
-unfolding packed
+unfolding maps-from eq-numbers
 returns-10 c =
-    let a = c .before .before .before .before .before .before .before .args in
-    let t = drop (a .from) (a .file .now) in
-    c .operator-at2 .ensures ∙ binary-op-is t ∙ of-kind (a .kind) Kind.BinaryOp t (c .before .before .enum-told9 .given .1)
+    let a = c .before .before .before .before .before .before .before .before .args in
+    binary-op-is (drop (a .from) (a .file .now)) _ _ (a .kind) _ (c .operator-at2 .ensures) refl (c .before .before .before .enum-told9 .given .1)
 
 -- src/lib.rt:189:1
 returns-11 : tie.Need-returns-11

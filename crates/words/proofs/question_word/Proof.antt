@@ -1,7 +1,9 @@
--- `words::question_word` meets its contract: the search through the byte string is the search through the table. Assumes nothing.
+-- `words::question_word` meets its contract: the map is right for the table, as is computed here. Assumes nothing.
+use mathlib.Core.Path.{refl}
+use Rattle.model.specs.Common.{eq-numbers}
 use Rattle.format.specs.Words.{question-words, question-word-of}
 use Rattle.format.specs.declared.QuestionWord.{QuestionWord}
-use Rattle.words.specs.Packed.{packed}
+use Rattle.words.proofs.Tables.{maps-from}
 use Rattle.words.proofs.Keywords.{word-found, word-missing}
 use borrow.Author.Needs.{needs}
 use Rattle.words.proofs.question_word.Statement.{statement}
@@ -33,14 +35,14 @@ enum-told c = search needs
 
 -- src/lib.rt:250:1
 returns : tie.Need-returns
-unfolding packed question-word-of
+unfolding maps-from eq-numbers question-word-of
 returns c =
-    word-found question-words QuestionWord.Other _ _ _ _ (c .before .before .before .before .find-word .ensures) (c .before .before .k .given .1) (c .question-word-at .ensures)
+    word-found question-words QuestionWord.Other _ _ _ _ (c .before .before .before .before .find-word .ensures) refl _ _ (c .before .before .k .given .1) (c .question-word-at .ensures)
 
 -- src/lib.rt:250:1
 returns-2 : tie.Need-returns-2
-unfolding packed question-word-of
-returns-2 c = word-missing question-words QuestionWord.Other _ _ (c .before .before .find-word .ensures) (c .enum-told .given .1)
+unfolding maps-from eq-numbers question-word-of
+returns-2 c = word-missing question-words QuestionWord.Other _ _ _ _ (c .before .before .find-word .ensures) refl (c .enum-told .given .1)
 
 pub question-word-spec : {M : Type 1} → statement M
 question-word-spec =
