@@ -1,0 +1,3 @@
+-- What the answers of this crate mean. Definitions only.
+pub mod Meaning
+pub mod Promises
