@@ -9,3 +9,4 @@ pub mod load;
 pub mod records;
 mod text;
 pub mod vectors;
+pub mod words;

@@ -98,7 +98,8 @@ impl Node {
 }
 
 impl Module {
-    fn items(&self) -> usize {
+    /// Items of all `..` lists in the module.
+    pub fn items(&self) -> usize {
         let types = self.types.iter().map(TypeExpr::items);
         let definitions = self.definitions.iter().map(|d| d.kind.items());
         let expressions = self.expressions.iter().map(|e| e.node.items());

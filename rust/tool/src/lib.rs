@@ -1,6 +1,7 @@
 //! Test tools for a port of Cairo-M's type resolution: generators of index files, a differential
 //! run against the original Rust, committed vectors and the mutation of the originals.
 
+pub mod check_index;
 pub mod corpus;
 #[cfg(originals)]
 pub mod differential;

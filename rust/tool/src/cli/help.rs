@@ -53,6 +53,20 @@ that the oracle gives up are passed over. Every 5 seconds standard error says ho
 
 exit status: 0 all equal, 1 a difference, 2 the run itself failed";
 
+pub const CHECK_INDEX: &str = "\
+usage: typetool check-index run [--keep DIR] PROGRAM N SEED
+       typetool check-index line
+       typetool check-index count N SEED
+
+`run` compares PROGRAM (an index file on standard input, one line on standard output) with the loader
+on N files: right ones, and copies with faults in links, limits, fields, bytes, the first line and the
+end. It prints how many are accepted and how many refused by each number, and each difference; the
+differing files are written to DIR, else to target/check-index. The line is `accepted` and the numbers
+of M, S, T, D, E, Q and items, or `refused`, number and line, parted by tabs. `line` prints the
+loader's own for standard input. `count` prints the verdicts of the N files, asking no program.
+
+exit status: 0 all equal, 1 a difference, 2 the run itself failed";
+
 pub const SELF_CHECK: &str = "\
 usage: typetool self-check N SEED
 

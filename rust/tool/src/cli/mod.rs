@@ -1,6 +1,7 @@
 //! The command line.
 
 mod arguments;
+mod check_index;
 mod corpus;
 #[cfg(originals)]
 mod differential;
@@ -72,6 +73,12 @@ const COMMANDS: &[Command] = &[
         summary: "compares a program with the oracle on many files",
         help: help::DIFFERENTIAL,
         run: with_originals!(differential),
+    },
+    Command {
+        name: "check-index",
+        summary: "compares a loading program with the loader on many files",
+        help: help::CHECK_INDEX,
+        run: Some(check_index::run),
     },
     Command {
         name: "self-check",

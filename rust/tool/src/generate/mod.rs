@@ -4,6 +4,7 @@ pub mod corners;
 pub mod damage;
 pub mod depths;
 pub mod edges;
+pub mod faults;
 pub mod malformed;
 #[cfg(originals)]
 pub mod program_indexes;

@@ -1,0 +1,2 @@
+-- The line that `check_index` writes. Definitions only.
+pub mod Line

@@ -1,0 +1,2 @@
+-- How results are written as numbers. Definitions only.
+pub mod Numbers

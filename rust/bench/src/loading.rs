@@ -1,0 +1,88 @@
+//! Loading: the proved function, the Rust loader and a plain scan over the same bytes. The record
+//! buffer is cleared before each run of each of them.
+
+use std::hint::black_box;
+
+use index_file::load;
+use index_file::words::{WORDS, with_plain_empty_lists, words};
+
+use crate::files::File;
+use crate::library;
+use crate::timing::{Contender, medians};
+
+/// Whether the proved function accepts the file and writes the words that docs/LAYOUT.md sets out
+/// into a cleared buffer; else says what differs.
+pub fn words_of(file: &File, compare: bool) -> Result<Vec<u32>, String> {
+    let index = load::load(&file.bytes).expect("a right file");
+    let expected = words(&file.bytes, &index);
+    let mut records = vec![0; WORDS];
+    library::load(&file.bytes, &mut records)
+        .map_err(|refusal| format!("{}: {}", file.name, refusal.answer_line()))?;
+    if !compare {
+        return Ok(expected);
+    }
+    let plain = with_plain_empty_lists(&records);
+    let other = with_plain_empty_lists(&expected);
+    match (0..WORDS).find(|at| plain[*at] != other[*at]) {
+        None => Ok(records),
+        Some(at) => Err(format!(
+            "{}: word {at} is {}, not {}",
+            file.name, plain[at], other[at]
+        )),
+    }
+}
+
+pub fn table(files: &[File], rounds: usize) {
+    println!(
+        "| file | bytes | proved | Rust | scan | Rust / proved | proved / scan | proved, a byte |"
+    );
+    println!("|---|---|---|---|---|---|---|---|");
+    for file in files {
+        let [proved, rust, scan] = times(&file.bytes, rounds);
+        println!(
+            "| {} | {} | {:.2} us | {:.2} us | {:.2} us | {:.2} | {:.2} | {:.2} ns |",
+            file.name,
+            file.bytes.len(),
+            proved / 1e3,
+            rust / 1e3,
+            scan / 1e3,
+            rust / proved,
+            proved / scan,
+            proved / file.bytes.len() as f64,
+        );
+    }
+}
+
+fn times(file: &[u8], rounds: usize) -> [f64; 3] {
+    let cleared = || {
+        let mut records = vec![0u32; WORDS];
+        move || {
+            records.fill(0);
+            black_box(records.as_mut_ptr());
+            // The pointer has left, so the buffer may be read and written behind our back.
+            unsafe { std::slice::from_raw_parts_mut(records.as_mut_ptr(), WORDS) }
+        }
+    };
+    let mut of_proved = cleared();
+    let proved = move || {
+        let verdict = library::load(black_box(file), of_proved());
+        black_box(verdict).expect("accepted before");
+    };
+    let mut of_rust = cleared();
+    let rust = move || {
+        black_box(of_rust());
+        drop(black_box(load::load(black_box(file))));
+    };
+    let mut of_scan = cleared();
+    let scan = move || {
+        black_box(of_scan());
+        let mut sum = 0usize;
+        for &byte in black_box(file) {
+            let ends = byte == b'\t' || byte == b'\n';
+            sum = sum.wrapping_mul(31).wrapping_add(ends as usize);
+        }
+        black_box(sum);
+    };
+    let contenders: [Contender; 3] = [Box::new(proved), Box::new(rust), Box::new(scan)];
+    medians(rounds, contenders)
+}

@@ -1,0 +1,111 @@
+//! Times of the proved functions against the Rust: loading and lookups. `run.sh` makes the static
+//! library that this links.
+
+mod compare;
+mod files;
+mod hash_maps;
+mod library;
+mod loading;
+mod lookups;
+mod timing;
+
+use std::process::ExitCode;
+
+const HELP: &str = "\
+usage: bench [OPTION...]
+       bench compare [OPTION...] N SEED
+
+Without `compare`: compares the words that the proved `load` writes for the measured files with those
+that docs/LAYOUT.md sets out, then prints two tables, loading, and lookups on the largest index.
+`compare` does so for N generated files, most of them with faults (those of `typetool check-index`),
+and compares the refusals with the Rust loader's; differing files are written to target/compare.
+
+  --rounds N     take the median of N rounds (else 25)
+  --write DIR    only write the measured files there
+  --any-words    don't compare the words, and give the lookups right ones
+
+exit status: 0 measured or all equal, 1 a difference, 2 a wrong argument";
+
+fn main() -> ExitCode {
+    let mut rounds = 25;
+    let mut compare = true;
+    let mut words = Vec::new();
+    let mut arguments = std::env::args().skip(1);
+    let files = files::files();
+    while let Some(argument) = arguments.next() {
+        let number = |value: Option<String>| value.and_then(|text| text.parse().ok());
+        match argument.as_str() {
+            "--help" => {
+                println!("{HELP}");
+                return ExitCode::SUCCESS;
+            }
+            "--any-words" => compare = false,
+            "--rounds" => match number(arguments.next()) {
+                Some(count) if count > 0 => rounds = count,
+                _ => return wrong("--rounds needs a number"),
+            },
+            "--write" => match arguments.next() {
+                Some(folder) => return write(&folder, &files),
+                None => return wrong("--write needs a folder"),
+            },
+            _ => words.push(argument),
+        }
+    }
+    let words: Vec<&str> = words.iter().map(String::as_str).collect();
+    match words[..] {
+        [] => measure(&files, rounds, compare),
+        ["compare", count, seed] => match (count.parse(), seed.parse()) {
+            (Ok(count), Ok(seed)) => ended(compare::run(count, seed, compare, "target/compare")),
+            _ => wrong("`compare` needs two numbers"),
+        },
+        _ => wrong("these arguments fit no form"),
+    }
+}
+
+fn ended(all_equal: Result<bool, String>) -> ExitCode {
+    match all_equal {
+        Ok(true) => ExitCode::SUCCESS,
+        Ok(false) => ExitCode::FAILURE,
+        Err(message) => {
+            eprintln!("{message}");
+            ExitCode::from(2)
+        }
+    }
+}
+
+fn measure(files: &[files::File], rounds: usize, compare: bool) -> ExitCode {
+    let mut words = Vec::new();
+    for file in files {
+        match loading::words_of(file, compare) {
+            Ok(of_file) => words.push(of_file),
+            Err(difference) => {
+                println!("{difference}");
+                return ExitCode::FAILURE;
+            }
+        }
+    }
+    loading::table(files, rounds);
+    println!();
+    let largest = (0..files.len()).max_by_key(|at| files[*at].bytes.len());
+    let largest = largest.expect("there are files");
+    lookups::table(&files[largest].bytes, &words[largest], rounds);
+    ExitCode::SUCCESS
+}
+
+fn wrong(message: &str) -> ExitCode {
+    eprintln!("{message}; see `bench --help`");
+    ExitCode::from(2)
+}
+
+fn write(folder: &str, files: &[files::File]) -> ExitCode {
+    for file in files {
+        let name = file.name.replace([' ', ','], "");
+        let path = format!("{folder}/{name}.idx");
+        if let Err(error) = std::fs::write(&path, &file.bytes) {
+            eprintln!("{path}: {error}");
+            return ExitCode::from(2);
+        }
+        println!("{path}: {} bytes", file.bytes.len());
+    }
+    ExitCode::SUCCESS
+}
