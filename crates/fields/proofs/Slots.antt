@@ -91,14 +91,14 @@ pub of-kind : (k known : Kind) (t : Text) → k ≡ known → field-as (value-of
 of-kind k known t q = ap (λ j. field-as (value-of j) t) (sym q)
 
 -- with a map that is right for the table
-module _ (t table map : Text) (k : Kind) (x : Option Read) (is : x ≡ field-as (λ u. numbered (candidate-place table map u)) t) where
-  pub unary-op-is : maps table map unary-op-words ≡ true → k ≡ Kind.UnaryOp → x ≡ field-as (value-of k) t
+module _ (t table map : Text) (x : Option Read) (is : x ≡ field-as (λ u. numbered (candidate-place table map u)) t) where
+  pub unary-op-is : maps table map unary-op-words ≡ true → x ≡ field-as (value-of Kind.UnaryOp) t
   unfolding field-as value-of
-  unary-op-is right h = is ∙ ap (λ o. reading (behind t) (numbered o)) (candidate-first table map (field-of t) unary-op-words right) ∙ of-kind k Kind.UnaryOp t h
+  unary-op-is right = is ∙ ap (λ o. reading (behind t) (numbered o)) (candidate-first table map (field-of t) unary-op-words right)
 
-  pub binary-op-is : maps table map binary-op-words ≡ true → k ≡ Kind.BinaryOp → x ≡ field-as (value-of k) t
+  pub binary-op-is : maps table map binary-op-words ≡ true → x ≡ field-as (value-of Kind.BinaryOp) t
   unfolding field-as value-of
-  binary-op-is right h = is ∙ ap (λ o. reading (behind t) (numbered o)) (candidate-first table map (field-of t) binary-op-words right) ∙ of-kind k Kind.BinaryOp t h
+  binary-op-is right = is ∙ ap (λ o. reading (behind t) (numbered o)) (candidate-first table map (field-of t) binary-op-words right)
 
 -- ------------------------------------------------------------------ a field behind a tab
 

@@ -195,6 +195,31 @@ fn operator_at(file: &[u8], from: usize, table: &[u8], map: &[u8; 32]) -> Slot
     }
 }
 
+// Each table stands in a function of its own: a byte string is copied where its function begins, and so only for an operator.
+fn unary_op_at(file: &[u8], from: usize) -> Slot
+    requires { ⌜ from ≤ length (now file) ⌝ }
+    ensures { λ r. ⌜ slot-is (now (file .entry)) r ≡ field-as (value-of Kind.UnaryOp) (drop from (now (file .entry))) ⌝ }
+{
+    operator_at(
+        file,
+        from,
+        b"\x01!\0\0\0\0\0\0\0\x01-\0\0\0\0\0\0\0",
+        b"\0\0\0\0\0\0\0\0\x01\0\0\0\0\0\0\0\0\0\0\0\0\0\0\0\0\0\0\0\0\0\0\0",
+    )
+}
+
+fn binary_op_at(file: &[u8], from: usize) -> Slot
+    requires { ⌜ from ≤ length (now file) ⌝ }
+    ensures { λ r. ⌜ slot-is (now (file .entry)) r ≡ field-as (value-of Kind.BinaryOp) (drop from (now (file .entry))) ⌝ }
+{
+    operator_at(
+        file,
+        from,
+        b"\x01+\0\0\0\0\0\0\0\x01-\0\0\0\0\0\0\0\x01*\0\0\0\0\0\0\0\x01/\0\0\0\0\0\0\0\x01%\0\0\0\0\0\0\0\x02==\0\0\0\0\0\0\x02!=\0\0\0\0\0\0\x01<\0\0\0\0\0\0\0\x01>\0\0\0\0\0\0\0\x02<=\0\0\0\0\0\0\x02>=\0\0\0\0\0\0\x02&&\0\0\0\0\0\0\x02||\0\0\0\0\0\0\x01&\0\0\0\0\0\0\0\x01|\0\0\0\0\0\0\0\x01^\0\0\0\0\0\0\0",
+        b"\x0a\0\0\x08\x0e\0\x0c\0\x01\0\0\x0f\0\0\x04\0\0\x06\x02\0\x07\x0d\x03\x0b\0\0\0\x09\0\0\x05\0",
+    )
+}
+
 // The field of a kind that begins at `from`. No kind has an empty field.
 pub fn value_at(file: &[u8], kind: Kind, from: usize) -> Slot
     ensures { λ r. ⌜ slot-is (now (file .entry)) r ≡ field-as (value-of kind) (drop from (now (file .entry))) ⌝ }
@@ -210,18 +235,8 @@ pub fn value_at(file: &[u8], kind: Kind, from: usize) -> Slot
         Kind::Size => number_at(file, from, SIZE),
         Kind::Name => name_at(file, from),
         Kind::MaybeName => maybe_name_at(file, from),
-        Kind::UnaryOp => operator_at(
-            file,
-            from,
-            b"\x01!\0\0\0\0\0\0\0\x01-\0\0\0\0\0\0\0",
-            b"\0\0\0\0\0\0\0\0\x01\0\0\0\0\0\0\0\0\0\0\0\0\0\0\0\0\0\0\0\0\0\0\0",
-        ),
-        Kind::BinaryOp => operator_at(
-            file,
-            from,
-            b"\x01+\0\0\0\0\0\0\0\x01-\0\0\0\0\0\0\0\x01*\0\0\0\0\0\0\0\x01/\0\0\0\0\0\0\0\x01%\0\0\0\0\0\0\0\x02==\0\0\0\0\0\0\x02!=\0\0\0\0\0\0\x01<\0\0\0\0\0\0\0\x01>\0\0\0\0\0\0\0\x02<=\0\0\0\0\0\0\x02>=\0\0\0\0\0\0\x02&&\0\0\0\0\0\0\x02||\0\0\0\0\0\0\x01&\0\0\0\0\0\0\0\x01|\0\0\0\0\0\0\0\x01^\0\0\0\0\0\0\0",
-            b"\x0a\0\0\x08\x0e\0\x0c\0\x01\0\0\x0f\0\0\x04\0\0\x06\x02\0\x07\x0d\x03\x0b\0\0\0\x09\0\0\x05\0",
-        ),
+        Kind::UnaryOp => unary_op_at(file, from),
+        Kind::BinaryOp => binary_op_at(file, from),
         Kind::Unused => unused_at(file, from),
     }
 }

@@ -70,11 +70,10 @@ use Rattle.records.specs.Layout.{
 use Rattle.records.proofs.Lists.{each-same}
 use Rattle.records.proofs.Packing.{start-packed, length-packed}
 use Rattle.records.proofs.Stores.{Listed as WithinItems, ListedNode}
-use Rattle.loader.specs.Values.{linked, named, value-by}
+use Rattle.loader.specs.Values.{Words, parts, linked, named, value-by}
 use Rattle.loader.specs.Items.{item-row, items-by}
 use Rattle.loader.specs.Numbers.{scope-number, type-number, definition-number, origin-number, node-number, question-number}
 use Rattle.loader.specs.Lines.{tail-by, TailHeld, last-word, scope-fits, path-fits}
-use Rattle.loader.specs.declared.values.Words.{Words}
 use Rattle.loader.specs.declared.rows.Tail.{Tail}
 
 positive : (n : ℕ) → eqb (suc n) 0 ≡ false
@@ -173,7 +172,7 @@ module _ (file words t : List ℕ) (first : ℕ) (x : Tail) (low : first ≤ 204
   -- ---------------------------------------------------------------- T
 
   pub type-row : (w : TypeWord) (h : TailHeld file words (type-shape w) t first x) → (type-number w ≡ 7 → ⊥)
-      → RowOf (type-as w (tail-by file (type-shape w) x (h .list))) type-expr-items (x .count) Few (type-expr-by file words (type-number w) (x .a .low) (x .b .low) (last-word (type-shape w) x))
+      → RowOf (type-as w (tail-by file (type-shape w) x (h .list))) type-expr-items (x .count) Few (type-expr-by file words (type-number w) (parts (x .a) .low) (parts (x .b) .low) (last-word (type-shape w) x))
   unfolding type-as type-expr-items type-expr-by option-at
   type-row TypeWord.Felt h known = record { value = TypeExpr.Felt; is = refl; counts = sym (h .none refl); held = λ few. refl }
   type-row TypeWord.Bool h known = record { value = TypeExpr.Bool; is = refl; counts = sym (h .none refl); held = λ few. refl }
@@ -202,32 +201,32 @@ module _ (file words t : List ℕ) (first : ℕ) (x : Tail) (low : first ≤ 204
   path-is (suc v) list = λ i. elim (sym (positive v) i) [ true ↦ eqb (length list) 0 | false ↦ true ]
 
   abbrev let-of : {s : Shape} → TailHeld file words s t first x → DefinitionKind
-  let-of h = DefinitionKind.Let (maybe-num (linked (link-by (x .a .low)))) (maybe-num (linked (link-by (x .b .low)))) (maybe-num (linked (link-by (x .c .low)))) (nums (h .list))
+  let-of h = DefinitionKind.Let (maybe-num (linked (link-by (parts (x .a) .low)))) (maybe-num (linked (link-by (parts (x .b) .low)))) (maybe-num (linked (link-by (parts (x .c) .low)))) (nums (h .list))
 
   -- a let's path
-  path-held : {s : Shape} (h : TailHeld file words s t first x) → path-ok (maybe-num (linked (link-by (x .c .low)))) (nums (h .list)) ≡ path-fits 3 (x .c .low) (x .count)
-  path-held h = path-is (x .c .low) (nums (h .list)) ∙ ap (path-fits 3 (x .c .low)) (counted h _)
+  path-held : {s : Shape} (h : TailHeld file words s t first x) → path-ok (maybe-num (linked (link-by (parts (x .c) .low)))) (nums (h .list)) ≡ path-fits 3 (parts (x .c) .low) (x .count)
+  path-held h = path-is (parts (x .c) .low) (nums (h .list)) ∙ ap (path-fits 3 (parts (x .c) .low)) (counted h _)
 
-  pub definition-kind-row : (w : DefinitionWord) (h : TailHeld file words (definition-shape w) t first x) → (definition-number w ≡ 7 → ⊥) → path-fits (definition-number w) (x .c .low) (x .count) ≡ true
-      → RowOf (definition-as w (tail-by file (definition-shape w) x (h .list))) kind-items (x .count) Few (definition-kind-by file words (definition-number w) (x .a .low) (x .b .low) (x .c .low) (x .list))
+  pub definition-kind-row : (w : DefinitionWord) (h : TailHeld file words (definition-shape w) t first x) → (definition-number w ≡ 7 → ⊥) → path-fits (definition-number w) (parts (x .c) .low) (x .count) ≡ true
+      → RowOf (definition-as w (tail-by file (definition-shape w) x (h .list))) kind-items (x .count) Few (definition-kind-by file words (definition-number w) (parts (x .a) .low) (parts (x .b) .low) (parts (x .c) .low) (x .list))
   unfolding definition-as kind-items definition-kind-by option-at
-  definition-kind-row DefinitionWord.Fn h known path = record { value = _; is = refl; counts = counted h _; held = λ few. ap (DefinitionKind.Function (x .a .low)) (fields-held h refl few) }
+  definition-kind-row DefinitionWord.Fn h known path = record { value = _; is = refl; counts = counted h _; held = λ few. ap (DefinitionKind.Function (parts (x .a) .low)) (fields-held h refl few) }
   definition-kind-row DefinitionWord.Struct h known path = record { value = _; is = refl; counts = counted h _; held = λ few. ap DefinitionKind.Struct (fields-held h refl few) }
   definition-kind-row DefinitionWord.Const h known path =
-      record { value = _; is = refl; counts = sym (h .none refl); held = λ few. ap₂ DefinitionKind.Const (linked-is (link-by (x .a .low))) (linked-is (link-by (x .b .low))) }
+      record { value = _; is = refl; counts = sym (h .none refl); held = λ few. ap₂ DefinitionKind.Const (linked-is (link-by (parts (x .a) .low))) (linked-is (link-by (parts (x .b) .low))) }
   definition-kind-row DefinitionWord.Let h known path =
       record {
         value = let-of h;
         is = ap (λ b. only-if b (let-of h)) (path-held h ∙ path);
         counts = counted h _;
-        held = λ few. (λ i. DefinitionKind.Let (linked-is (link-by (x .a .low)) i) (linked-is (link-by (x .b .low)) i) (linked-is (link-by (x .c .low)) i) (nums-held h refl few i));
+        held = λ few. (λ i. DefinitionKind.Let (linked-is (link-by (parts (x .a) .low)) i) (linked-is (link-by (parts (x .b) .low)) i) (linked-is (link-by (parts (x .c) .low)) i) (nums-held h refl few i));
       }
   definition-kind-row DefinitionWord.Param h known path = record { value = _; is = refl; counts = sym (h .none refl); held = λ few. refl }
   definition-kind-row DefinitionWord.Use h known path = record { value = _; is = refl; counts = sym (h .none refl); held = λ few. refl }
   definition-kind-row DefinitionWord.Loop h known path = record { value = DefinitionKind.LoopVariable; is = refl; counts = sym (h .none refl); held = λ few. refl }
   definition-kind-row DefinitionWord.Other h known path = absurd (known refl)
 
-  pub definition-path-lost : (w : DefinitionWord) (h : TailHeld file words (definition-shape w) t first x) → path-fits (definition-number w) (x .c .low) (x .count) ≡ false → definition-as w (tail-by file (definition-shape w) x (h .list)) ≡ none
+  pub definition-path-lost : (w : DefinitionWord) (h : TailHeld file words (definition-shape w) t first x) → path-fits (definition-number w) (parts (x .c) .low) (x .count) ≡ false → definition-as w (tail-by file (definition-shape w) x (h .list)) ≡ none
   unfolding definition-as
   definition-path-lost DefinitionWord.Fn h path = absurd (false≢true (sym path))
   definition-path-lost DefinitionWord.Struct h path = absurd (false≢true (sym path))
@@ -267,25 +266,25 @@ module _ (file words t : List ℕ) (first : ℕ) (x : Tail) (low : first ≤ 204
   binary-is (suc (suc (suc (suc (suc (suc (suc (suc (suc (suc (suc (suc (suc (suc (suc (suc n)))))))))))))))) = refl
 
   pub node-row : (w : NodeWord) (h : TailHeld file words (node-shape w) t first x) → (node-number w ≡ 16 → ⊥)
-      → RowOf (node-as w (tail-by file (node-shape w) x (h .list))) node-items (x .count) Few (expression-by file words (node-number w) (x .a .low) (x .b .low) (last-word (node-shape w) x))
+      → RowOf (node-as w (tail-by file (node-shape w) x (h .list))) node-items (x .count) Few (expression-by file words (node-number w) (parts (x .a) .low) (parts (x .b) .low) (last-word (node-shape w) x))
   unfolding node-as node-items expression-by option-at
-  node-row NodeWord.Lit h known = record { value = _; is = refl; counts = sym (h .none refl); held = λ few. ap Expression.Literal (named-is (suffix-by file (x .a .low))) }
+  node-row NodeWord.Lit h known = record { value = _; is = refl; counts = sym (h .none refl); held = λ few. ap Expression.Literal (named-is (suffix-by file (parts (x .a) .low))) }
   node-row NodeWord.Bool h known = record { value = Expression.BooleanLiteral; is = refl; counts = sym (h .none refl); held = λ few. refl }
   node-row NodeWord.Ident h known = record { value = _; is = refl; counts = sym (h .none refl); held = λ few. refl }
-  node-row NodeWord.Un h known = record { value = _; is = refl; counts = sym (h .none refl); held = λ few. ap₂ Expression.Unary (unary-is (x .a .low)) (linked-is (link-by (x .b .low))) }
+  node-row NodeWord.Un h known = record { value = _; is = refl; counts = sym (h .none refl); held = λ few. ap₂ Expression.Unary (unary-is (parts (x .a) .low)) (linked-is (link-by (parts (x .b) .low))) }
   node-row NodeWord.Bin h known =
-      record { value = _; is = refl; counts = sym (h .none refl); held = λ few. (λ i. Expression.Binary (binary-is (x .a .low) i) (linked-is (link-by (x .b .low)) i) (linked-is (link-by (x .c .low)) i)) }
-  node-row NodeWord.Call h known = record { value = _; is = refl; counts = counted h _; held = λ few. ap₂ Expression.FunctionCall (linked-is (link-by (x .a .low))) (maybe-nums-held h refl few) }
-  node-row NodeWord.Member h known = record { value = _; is = refl; counts = sym (h .none refl); held = λ few. ap (λ e. Expression.MemberAccess e (name-by file (x .b .low))) (linked-is (link-by (x .a .low))) }
-  node-row NodeWord.Index h known = record { value = _; is = refl; counts = sym (h .none refl); held = λ few. ap₂ Expression.IndexAccess (linked-is (link-by (x .a .low))) (linked-is (link-by (x .b .low))) }
+      record { value = _; is = refl; counts = sym (h .none refl); held = λ few. (λ i. Expression.Binary (binary-is (parts (x .a) .low) i) (linked-is (link-by (parts (x .b) .low)) i) (linked-is (link-by (parts (x .c) .low)) i)) }
+  node-row NodeWord.Call h known = record { value = _; is = refl; counts = counted h _; held = λ few. ap₂ Expression.FunctionCall (linked-is (link-by (parts (x .a) .low))) (maybe-nums-held h refl few) }
+  node-row NodeWord.Member h known = record { value = _; is = refl; counts = sym (h .none refl); held = λ few. ap (λ e. Expression.MemberAccess e (name-by file (parts (x .b) .low))) (linked-is (link-by (parts (x .a) .low))) }
+  node-row NodeWord.Index h known = record { value = _; is = refl; counts = sym (h .none refl); held = λ few. ap₂ Expression.IndexAccess (linked-is (link-by (parts (x .a) .low))) (linked-is (link-by (parts (x .b) .low))) }
   node-row NodeWord.Slit h known = record { value = _; is = refl; counts = sym (h .none refl); held = λ few. refl }
   node-row NodeWord.Tuple h known = record { value = _; is = refl; counts = counted h _; held = λ few. ap Expression.Tuple (maybe-nums-held h refl few) }
-  node-row NodeWord.Tidx h known = record { value = _; is = refl; counts = sym (h .none refl); held = λ few. ap (λ e. Expression.TupleIndex e (x .b .low)) (linked-is (link-by (x .a .low))) }
+  node-row NodeWord.Tidx h known = record { value = _; is = refl; counts = sym (h .none refl); held = λ few. ap (λ e. Expression.TupleIndex e (parts (x .b) .low)) (linked-is (link-by (parts (x .a) .low))) }
   node-row NodeWord.Arr h known = record { value = _; is = refl; counts = counted h _; held = λ few. ap Expression.ArrayLiteral (maybe-nums-held h refl few) }
-  node-row NodeWord.Rep h known = record { value = _; is = refl; counts = sym (h .none refl); held = λ few. ap (λ e. Expression.ArrayRepeat e (size-by (x .b .low) (x .b .high))) (linked-is (link-by (x .a .low))) }
+  node-row NodeWord.Rep h known = record { value = _; is = refl; counts = sym (h .none refl); held = λ few. ap (λ e. Expression.ArrayRepeat e (size-by (parts (x .b) .low) (parts (x .b) .high))) (linked-is (link-by (parts (x .a) .low))) }
   node-row NodeWord.Cast h known = record { value = _; is = refl; counts = sym (h .none refl); held = λ few. refl }
-  node-row NodeWord.New h known = record { value = _; is = refl; counts = sym (h .none refl); held = λ few. ap (Expression.New (x .a .low)) (linked-is (link-by (x .b .low))) }
-  node-row NodeWord.Paren h known = record { value = _; is = refl; counts = sym (h .none refl); held = λ few. ap Expression.Parenthesized (linked-is (link-by (x .a .low))) }
+  node-row NodeWord.New h known = record { value = _; is = refl; counts = sym (h .none refl); held = λ few. ap (Expression.New (parts (x .a) .low)) (linked-is (link-by (parts (x .b) .low))) }
+  node-row NodeWord.Paren h known = record { value = _; is = refl; counts = sym (h .none refl); held = λ few. ap Expression.Parenthesized (linked-is (link-by (parts (x .a) .low))) }
   node-row NodeWord.Other h known = absurd (known refl)
 
   pub node-listed : (w : NodeWord) → TailHeld file words (node-shape w) t first x → Few → ListedNode (first + x .count) (node-number w) (last-word (node-shape w) x)
@@ -313,9 +312,9 @@ module _ (file words t : List ℕ) (first : ℕ) (x : Tail) (low : first ≤ 204
   -- ---------------------------------------------------------------- Q
 
   pub question-row-is : (w : QuestionWord) (h : TailHeld file words (question-shape w) t first x) → (question-number w ≡ 3 → ⊥)
-      → question-as w (tail-by file (question-shape w) x (h .list)) ≡ some (question-by (question-number w) (x .a .low) (x .b .low) (x .c .low))
+      → question-as w (tail-by file (question-shape w) x (h .list)) ≡ some (question-by (question-number w) (parts (x .a) .low) (parts (x .b) .low) (parts (x .c) .low))
   unfolding question-as question-by option-at
-  question-row-is QuestionWord.Expr h known = ap (λ o. some (Question.expr (x .a .low) (x .b .low) o)) (linked-is (link-by (x .c .low)))
+  question-row-is QuestionWord.Expr h known = ap (λ o. some (Question.expr (parts (x .a) .low) (parts (x .b) .low) o)) (linked-is (link-by (parts (x .c) .low)))
   question-row-is QuestionWord.Def h known = refl
   question-row-is QuestionWord.OfType h known = refl
   question-row-is QuestionWord.Other h known = absurd (known refl)

@@ -21,10 +21,9 @@ use Rattle.records.specs.Promises.{Put, Same}
 use Rattle.records.proofs.Stores.{put-append, definition-put, definition-row-same, same-above, Listed}
 use Rattle.loader.specs.Items.{Behind}
 use Rattle.loader.specs.Numbers.{definition-number}
-use Rattle.loader.specs.Values.{value-by}
+use Rattle.loader.specs.Values.{Words, parts, value-by}
 use Rattle.loader.specs.State.{row-entry, Left, Fine, HasRoom}
 use Rattle.loader.specs.Lines.{tail-by, TailHeld, path-fits, LinePut}
-use Rattle.loader.specs.declared.values.Words.{Words}
 use Rattle.loader.specs.declared.rows.Counts.{Counts}
 use Rattle.loader.specs.declared.rows.Tail.{Tail}
 use Rattle.loader.specs.declared.rows.LineRead.{LineRead}
@@ -70,29 +69,29 @@ module _ (file t : Text) where
           pub definition-no-kind : definition-number w ≡ 7 → line-from LineWord.D t ≡ none
           definition-no-kind r = definition-read (tail-by file (definition-shape w) x (h .list)) none (h .is) (definition-other w (tail-by file (definition-shape w) x (h .list)) r)
 
-          pub definition-no-path : path-fits (definition-number w) (x .c .low) (x .count) ≡ false → line-from LineWord.D t ≡ none
+          pub definition-no-path : path-fits (definition-number w) (parts (x .c) .low) (x .count) ≡ false → line-from LineWord.D t ≡ none
           definition-no-path r =
               definition-read (tail-by file (definition-shape w) x (h .list)) none (h .is) (definition-path-lost file words′ (drop q file) (n .items) x low w h r)
 
           module _ {words words₁ words₂ words₃ : List ℕ} (fine : Fine file words n) (room : HasRoom LineWord.D n) (known : definition-number w ≡ 7 → ⊥)
-              (path : path-fits (definition-number w) (x .c .low) (x .count) ≡ true) (behind : Behind (n .items) words words′)
+              (path : path-fits (definition-number w) (parts (x .c) .low) (x .count) ≡ true) (behind : Behind (n .items) words words′)
               (first : Put words′ (definition-place (n .definitions)) (definition-number w ∷ scope .low ∷ name .low ∷ start .low ∷ []) words₁)
-              (second : Put words₁ (definition-place (n .definitions) + 4) (end .low ∷ full-start .low ∷ full-end .low ∷ x .a .low ∷ []) words₂)
-              (third : Put words₂ (definition-place (n .definitions) + 8) (x .b .low ∷ x .c .low ∷ x .list ∷ 0 ∷ []) words₃) where
+              (second : Put words₁ (definition-place (n .definitions) + 4) (end .low ∷ full-start .low ∷ full-end .low ∷ parts (x .a) .low ∷ []) words₂)
+              (third : Put words₂ (definition-place (n .definitions) + 8) (parts (x .b) .low ∷ parts (x .c) .low ∷ x .list ∷ 0 ∷ []) words₃) where
             put : Put words′ (definition-place (n .definitions))
-                (definition-number w ∷ scope .low ∷ name .low ∷ start .low ∷ end .low ∷ full-start .low ∷ full-end .low ∷ x .a .low ∷ x .b .low ∷ x .c .low ∷ x .list ∷ 0 ∷ []) words₃
+                (definition-number w ∷ scope .low ∷ name .low ∷ start .low ∷ end .low ∷ full-start .low ∷ full-end .low ∷ parts (x .a) .low ∷ parts (x .b) .low ∷ parts (x .c) .low ∷ x .list ∷ 0 ∷ []) words₃
             put = put-append (put-append first second) third
 
             kept : TailHeld file words₃ (definition-shape w) (drop q file) (n .items) x
             kept = tail-kept (same-above put (item-place 0) (item-place max-items) (omega (arith, room))) h
 
             value : RowOf (definition-as w (tail-by file (definition-shape w) x (kept .list))) kind-items (x .count) (n .items + x .count ≤ max-items)
-                (definition-kind-by file words₃ (definition-number w) (x .a .low) (x .b .low) (x .c .low) (x .list))
+                (definition-kind-by file words₃ (definition-number w) (parts (x .a) .low) (parts (x .b) .low) (parts (x .c) .low) (x .list))
             value = definition-kind-row file words₃ (drop q file) (n .items) x low w kept known path
 
-            row-is : definition-row file words₃ (n .definitions) ≡ with-kind (definition-kind-by file words₃ (definition-number w) (x .a .low) (x .b .low) (x .c .low) (x .list))
+            row-is : definition-row file words₃ (n .definitions) ≡ with-kind (definition-kind-by file words₃ (definition-number w) (parts (x .a) .low) (parts (x .b) .low) (parts (x .c) .low) (x .list))
             row-is =
-                definition-put file (n .definitions) (definition-number w) (scope .low) (name .low) (start .low) (end .low) (full-start .low) (full-end .low) (x .a .low) (x .b .low) (x .c .low) (x .list) 0 put
+                definition-put file (n .definitions) (definition-number w) (scope .low) (name .low) (start .low) (end .low) (full-start .low) (full-end .low) (parts (x .a) .low) (parts (x .b) .low) (parts (x .c) .low) (x .list) 0 put
 
             listed : n .items + x .count ≤ max-items → word words₃ (definition-place (n .definitions)) ≤ 3 → Listed (n .items + x .count) (definition-word words₃ (n .definitions) 10)
             listed few e =

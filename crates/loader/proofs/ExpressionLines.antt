@@ -22,10 +22,9 @@ use Rattle.records.proofs.Packing.{node-packed, origin-packed}
 use Rattle.records.proofs.Stores.{put-append, put-more, expression-put, expression-row-same, same-above, ListedNode}
 use Rattle.loader.specs.Items.{Behind}
 use Rattle.loader.specs.Numbers.{origin-number, node-number}
-use Rattle.loader.specs.Values.{value-by}
+use Rattle.loader.specs.Values.{Words, parts, value-by}
 use Rattle.loader.specs.State.{row-entry, Fine, HasRoom}
 use Rattle.loader.specs.Lines.{tail-by, TailHeld, last-word, OriginHere, origin-here, OriginHeld, LinePut}
-use Rattle.loader.specs.declared.values.Words.{Words}
 use Rattle.loader.specs.declared.rows.Counts.{Counts}
 use Rattle.loader.specs.declared.rows.Tail.{Tail}
 use Rattle.loader.specs.declared.rows.LineRead.{LineRead}
@@ -183,10 +182,10 @@ module _ (file t : Text) where
             module _ {words words₁ words₂ words₃ words₄ : List ℕ} (fine : Fine file words n) (room : HasRoom LineWord.E n) (known : node-number w ≡ 16 → ⊥) (behind : Behind (n .items) words words′)
                 (first : Put words′ (expression-place (n .expressions)) ((node-number w + 256 * kind) ∷ scope .low ∷ start .low ∷ end .low ∷ []) words₁)
                 (second : Put words₁ (expression-place (n .expressions) + 4) (expected .low ∷ definition .low ∷ link ∷ value ∷ []) words₂)
-                (third : Put words₂ (expression-place (n .expressions) + 8) (x .a .low ∷ x .b .low ∷ []) words₃)
+                (third : Put words₂ (expression-place (n .expressions) + 8) (parts (x .a) .low ∷ parts (x .b) .low ∷ []) words₃)
                 (fourth : Put words₃ (expression-place (n .expressions) + 10) (last-word (node-shape w) x ∷ []) words₄) where
               put : Put words′ (expression-place (n .expressions))
-                  ((node-number w + 256 * kind) ∷ scope .low ∷ start .low ∷ end .low ∷ expected .low ∷ definition .low ∷ link ∷ value ∷ x .a .low ∷ x .b .low ∷ last-word (node-shape w) x ∷ []) words₄
+                  ((node-number w + 256 * kind) ∷ scope .low ∷ start .low ∷ end .low ∷ expected .low ∷ definition .low ∷ link ∷ value ∷ parts (x .a) .low ∷ parts (x .b) .low ∷ last-word (node-shape w) x ∷ []) words₄
               put = put-append (put-append (put-append first second) third) fourth
 
               node-low : node-number w < 256
@@ -196,10 +195,10 @@ module _ (file t : Text) where
               kept = tail-kept (same-above put (item-place 0) (item-place max-items) (omega (arith, room))) h
 
               node-held : RowOf (node-as w (tail-by file (node-shape w) x (kept .list))) node-items (x .count) (n .items + x .count ≤ max-items)
-                  (expression-by file words₄ (node-number w) (x .a .low) (x .b .low) (last-word (node-shape w) x))
+                  (expression-by file words₄ (node-number w) (parts (x .a) .low) (parts (x .b) .low) (last-word (node-shape w) x))
               node-held = node-row file words₄ (drop q file) (n .items) x (fine .items) w kept known
 
-              row-is : with-parts (origin-by file kind link value) (expression-by file words₄ (node-number w) (x .a .low) (x .b .low) (last-word (node-shape w) x)) ≡ expression-row file words₄ (n .expressions)
+              row-is : with-parts (origin-by file kind link value) (expression-by file words₄ (node-number w) (parts (x .a) .low) (parts (x .b) .low) (last-word (node-shape w) x)) ≡ expression-row file words₄ (n .expressions)
               row-is =
                   (λ i. record {
                     scope = scope .low;
@@ -208,9 +207,9 @@ module _ (file t : Text) where
                     expected = linked-is (link-by (expected .low)) i;
                     definition = linked-is (link-by (definition .low)) i;
                     origin = origin-by file (sym (origin-packed (node-number w) kind node-low) i) link value;
-                    node = expression-by file words₄ (sym (node-packed (node-number w) kind node-low) i) (x .a .low) (x .b .low) (last-word (node-shape w) x);
+                    node = expression-by file words₄ (sym (node-packed (node-number w) kind node-low) i) (parts (x .a) .low) (parts (x .b) .low) (last-word (node-shape w) x);
                   })
-                  ∙ sym (expression-put file (n .expressions) (node-number w + 256 * kind) (scope .low) (start .low) (end .low) (expected .low) (definition .low) link value (x .a .low) (x .b .low) (last-word (node-shape w) x) put)
+                  ∙ sym (expression-put file (n .expressions) (node-number w + 256 * kind) (scope .low) (start .low) (end .low) (expected .low) (definition .low) link value (parts (x .a) .low) (parts (x .b) .low) (last-word (node-shape w) x) put)
 
               listed : n .items + x .count ≤ max-items → ListedNode (n .items + x .count) (word words₄ (expression-place (n .expressions)) % 256) (expression-word words₄ (n .expressions) 10)
               listed few =

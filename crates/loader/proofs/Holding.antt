@@ -21,9 +21,8 @@ use Rattle.fields.specs.declared.Value as held
 use Rattle.fields.specs.declared.Slot.{Slot}
 use Rattle.fields.specs.Held.{value-is, slot-is}
 use Rattle.fields.proofs.Slots.{slot-found}
-use Rattle.loader.specs.declared.values.Words.{Words}
 use Rattle.loader.specs.declared.values.SlotWords.{SlotWords}
-use Rattle.loader.specs.Values.{linked, named, value-by, is-link, slot-words-is}
+use Rattle.loader.specs.Values.{Words, parts, linked, named, value-by, is-link, slot-words-is}
 
 -- ------------------------------------------------------------------ what a field of a kind can hold
 
@@ -154,7 +153,7 @@ slot-fits k t = of k (is-nothing k) refl
 
 -- ------------------------------------------------------------------ the words of a value hold it
 
-pub absent-held : (k : Kind) (file : Text) → Fits k absent → absent ≡ value-by k file (record { low = 0; high = 0 })
+pub absent-held : (k : Kind) (file : Text) → Fits k absent → absent ≡ value-by k file (parts 0)
 unfolding suffix-by
 absent-held Kind.Nothing file h = refl
 absent-held Kind.Number file h = absurd h
@@ -180,26 +179,27 @@ link-bound Kind.UnaryOp n e h = absurd (false≢true e)
 link-bound Kind.BinaryOp n e h = absurd (false≢true e)
 link-bound Kind.Unused n e h = absurd h
 
-pub link-held : (k : Kind) (file : Text) (n w : ℕ) → is-link k ≡ true → w ≡ n + 1 → number n ≡ value-by k file (record { low = w; high = 0 })
-link-held Kind.Nothing file n w e q = absurd (false≢true e)
-link-held Kind.Number file n w e q = absurd (false≢true e)
-link-held Kind.MaybeNumber file n w e q = ap linked (sym (ap link-by q ∙ link-packed n))
-link-held Kind.Position file n w e q = absurd (false≢true e)
-link-held Kind.Size file n w e q = absurd (false≢true e)
-link-held Kind.Name file n w e q = absurd (false≢true e)
-link-held Kind.MaybeName file n w e q = absurd (false≢true e)
-link-held Kind.UnaryOp file n w e q = absurd (false≢true e)
-link-held Kind.BinaryOp file n w e q = absurd (false≢true e)
-link-held Kind.Unused file n w e q = absurd (false≢true e)
+-- a number of one word
+small : (n : ℕ) → n ≤ max-position → n % 4294967296 ≡ n
+small n h = omega arith
 
-module _ (file : Text) (n low high : ℕ) (is-low : low ≡ n % 4294967296) (is-high : high ≡ n / 4294967296) where
-  low-held : n ≤ max-position → number n ≡ number low
-  low-held h = ap number (sym (is-low ∙ small n h))
-    where
-      small : (n : ℕ) → n ≤ max-position → n % 4294967296 ≡ n
-      small n h = omega arith
+pub link-held : (k : Kind) (file : Text) (n : ℕ) → is-link k ≡ true → n ≤ max-number → number n ≡ value-by k file (parts (n + 1))
+link-held Kind.Nothing file n e h = absurd (false≢true e)
+link-held Kind.Number file n e h = absurd (false≢true e)
+link-held Kind.MaybeNumber file n e h = ap linked (sym (ap link-by (small (n + 1) (omega arith)) ∙ link-packed n))
+link-held Kind.Position file n e h = absurd (false≢true e)
+link-held Kind.Size file n e h = absurd (false≢true e)
+link-held Kind.Name file n e h = absurd (false≢true e)
+link-held Kind.MaybeName file n e h = absurd (false≢true e)
+link-held Kind.UnaryOp file n e h = absurd (false≢true e)
+link-held Kind.BinaryOp file n e h = absurd (false≢true e)
+link-held Kind.Unused file n e h = absurd (false≢true e)
 
-  pub number-held : (k : Kind) → is-link k ≡ false → Fits k (number n) → number n ≡ value-by k file (record { low = low; high = high })
+module _ (file : Text) (n : ℕ) where
+  low-held : n ≤ max-position → number n ≡ number (n % 4294967296)
+  low-held h = ap number (sym (small n h))
+
+  pub number-held : (k : Kind) → is-link k ≡ false → Fits k (number n) → number n ≡ value-by k file (parts n)
   number-held Kind.Nothing e h = absurd h
   number-held Kind.Number e h = low-held (omega arith)
   number-held Kind.MaybeNumber e h = absurd (false≢true (sym e))
@@ -280,19 +280,22 @@ text-named Kind.UnaryOp file p n h = absurd h
 text-named Kind.BinaryOp file p n h = absurd h
 text-named Kind.Unused file p n h = absurd h
 
-module _ (file : Text) (p n w : ℕ) (low : p < 65536) (is-word : w ≡ p + 65536 * n) where
-  part-held : bytes-at file p n ≡ name-by file w
-  unfolding name-by
-  part-held = (λ i. bytes-at file (sym (ap start-of is-word ∙ start-packed p n low) i) (sym (ap length-of is-word ∙ length-packed p n low) i))
+module _ (file : Text) (p n w : ℕ) (low : p < 65536) (short : n ≤ 64) (is-word : w ≡ p + 65536 * n) where
+  one-word : w % 4294967296 ≡ p + 65536 * n
+  one-word = small w (omega (arith, is-word)) ∙ is-word
 
-  pub text-held : (k : Kind) → 1 ≤ n → Fits k (text (bytes-at file p n)) → text (bytes-at file p n) ≡ value-by k file (record { low = w; high = 0 })
+  part-held : bytes-at file p n ≡ name-by file (w % 4294967296)
+  unfolding name-by
+  part-held = (λ i. bytes-at file (sym (ap start-of one-word ∙ start-packed p n low) i) (sym (ap length-of one-word ∙ length-packed p n low) i))
+
+  pub text-held : (k : Kind) → 1 ≤ n → Fits k (text (bytes-at file p n)) → text (bytes-at file p n) ≡ value-by k file (parts w)
   text-held Kind.Nothing least h = absurd h
   text-held Kind.Number least h = absurd h
   text-held Kind.MaybeNumber least h = absurd h
   text-held Kind.Position least h = absurd h
   text-held Kind.Size least h = absurd h
   text-held Kind.Name least h = ap text part-held
-  text-held Kind.MaybeName least h = ap text part-held ∙ ap named (sym (suffix-packed file w (omega (arith, is-word))))
+  text-held Kind.MaybeName least h = ap text part-held ∙ ap named (sym (suffix-packed file (w % 4294967296) (omega (arith, one-word))))
   text-held Kind.UnaryOp least h = absurd h
   text-held Kind.BinaryOp least h = absurd h
   text-held Kind.Unused least h = absurd h
@@ -303,12 +306,12 @@ module _ (s t : Text) (k : Kind) (r : Slot) (q : slot-is s r ≡ slot k t) (v : 
   pub held-fits : {u : held.Value} → v ≡ u → Fits k (value-is s u)
   held-fits h = subst (λ x. Fits k (value-is s x)) h (every-some (slot-fits k t) (slot-found s t k r q v e found))
 
-  pub words-held : {u : held.Value} (w : Words) → v ≡ u → value-is s u ≡ value-by k s w → some (record { value = value-by k s w; rest = drop e s }) ≡ slot k t
+  pub words-held : {u : held.Value} (w : ℕ) → v ≡ u → value-is s u ≡ value-by k s (parts w) → some (record { value = value-by k s (parts w); rest = drop e s }) ≡ slot k t
   words-held w h same =
       sym (slot-found s t k r q v e found ∙ ap (λ x. some (record { value = x; rest = drop e s })) (ap (value-is s) h ∙ same))
 
 module _ (s t : Text) (k : Kind) (r : SlotWords) (q : slot-words-is k s r ≡ slot k t) where
-  pub words-found : (w : Words) (e : ℕ) → r ≡ SlotWords.Are w e → slot k t ≡ some (record { value = value-by k s w; rest = drop e s })
+  pub words-found : (w e : ℕ) → r ≡ SlotWords.Are w e → slot k t ≡ some (record { value = value-by k s (parts w); rest = drop e s })
   words-found w e h = sym q ∙ ap (slot-words-is k s) h
 
   pub words-lost : r ≡ SlotWords.Wrong → slot k t ≡ none

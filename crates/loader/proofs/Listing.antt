@@ -20,8 +20,7 @@ use Rattle.format.proofs.Enough.{items-enough, first-shorter, slot-shorter}
 use Rattle.words.proofs.Bytes.{here}
 use Rattle.records.specs.Layout.{word, each, item-place, item-value, item-name}
 use Rattle.records.proofs.Lists.{each-same, each-snoc, each-length}
-use Rattle.loader.specs.declared.values.Words.{Words}
-use Rattle.loader.specs.Values.{value-by}
+use Rattle.loader.specs.Values.{Words, parts, value-by}
 use Rattle.loader.specs.Items.{ItemHere, item-here, is-named, first-word, one-word, item-by, item-row, items-by, Behind, ItemPut, ItemsHeld}
 
 -- ------------------------------------------------------------------ the end of a list

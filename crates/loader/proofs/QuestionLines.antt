@@ -20,6 +20,7 @@ use Rattle.records.proofs.Stores.{question-put, question-row-same}
 use Rattle.loader.specs.Items.{Behind}
 use Rattle.loader.specs.Numbers.{question-number}
 use Rattle.loader.specs.State.{row-entry, Fine, HasRoom}
+use Rattle.loader.specs.Values.{Words, parts}
 use Rattle.loader.specs.Lines.{tail-by, TailHeld, LinePut}
 use Rattle.loader.specs.declared.rows.Counts.{Counts}
 use Rattle.loader.specs.declared.rows.Tail.{Tail}
@@ -47,9 +48,9 @@ module _ (file t : Text) where
       question-no-kind e = question-read (tail-by file (question-shape w) x (h .list)) none (h .is) (question-other w (tail-by file (question-shape w) x (h .list)) e)
 
       module _ {words words″ : List ℕ} (fine : Fine file words n) (room : HasRoom LineWord.Q n) (known : question-number w ≡ 3 → ⊥) (behind : Behind (n .items) words words′)
-          (put : Put words′ (question-place (n .questions)) (question-number w ∷ x .a .low ∷ x .b .low ∷ x .c .low ∷ []) words″) where
+          (put : Put words′ (question-place (n .questions)) (question-number w ∷ parts (x .a) .low ∷ parts (x .b) .low ∷ parts (x .c) .low ∷ []) words″) where
         abbrev value : Question
-        value = question-by (question-number w) (x .a .low) (x .b .low) (x .c .low)
+        value = question-by (question-number w) (parts (x .a) .low) (parts (x .b) .low) (parts (x .c) .low)
 
         pub question-put-as : LinePut LineWord.Q file words n t words″ (LineRead.Is (x .count) (x .end))
         unfolding row-entry entry-items
@@ -61,7 +62,7 @@ module _ (file t : Text) where
                     entry = a-question value;
                     is = question-read (tail-by file (question-shape w) x (h .list)) (some value) (h .is) (question-row-is file words′ (drop q file) (n .items) x (fine .items) w h known);
                     counts = sym (question-none file words′ (drop q file) (n .items) x (fine .items) w h);
-                    held = λ few. ap a-question (sym (question-put (n .questions) (question-number w) (x .a .low) (x .b .low) (x .c .low) put));
+                    held = λ few. ap a-question (sym (question-put (n .questions) (question-number w) (parts (x .a) .low) (parts (x .b) .low) (parts (x .c) .low) put));
                     stays = λ few words‴ left.
                         ap a-question (question-row-same words″ words‴ (n .questions) (λ i a b. left .questions i (omega arith) (omega arith)));
                     begins = tt;

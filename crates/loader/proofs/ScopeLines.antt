@@ -23,7 +23,7 @@ use Rattle.records.proofs.Stores.{put-append, scope-put, scope-row-same}
 use Rattle.loader.specs.Items.{Behind}
 use Rattle.loader.specs.Numbers.{scope-number}
 use Rattle.loader.specs.State.{row-entry, BeginsAt, Fine, HasRoom}
-use Rattle.loader.specs.Values.{linked}
+use Rattle.loader.specs.Values.{Words, parts, linked}
 use Rattle.loader.specs.Lines.{tail-by, TailHeld, scope-fits, LinePut}
 use Rattle.loader.specs.declared.rows.Counts.{Counts}
 use Rattle.loader.specs.declared.rows.Tail.{Tail}
@@ -83,13 +83,13 @@ module _ (file t : Text) where
 
   module _ {words words′ words₁ words₂ words₃ : List ℕ} (n : Counts) (x : Tail) (h : TailHeld file words′ module-shape t (n .items) x)
       (fine : Fine file words n) (room : HasRoom LineWord.M n) (behind : Behind (n .items) words words′)
-      (first : Put words′ (module-place (n .modules)) (x .a .low ∷ n .scopes ∷ []) words₁)
+      (first : Put words′ (module-place (n .modules)) (parts (x .a) .low ∷ n .scopes ∷ []) words₁)
       (second : Put words₁ (module-place (n .modules) + 2) (n .types ∷ n .definitions ∷ []) words₂)
       (third : Put words₂ (module-place (n .modules) + 4) (n .expressions ∷ 0 ∷ []) words₃) where
-    put : Put words′ (module-place (n .modules)) (x .a .low ∷ n .scopes ∷ n .types ∷ n .definitions ∷ n .expressions ∷ 0 ∷ []) words₃
+    put : Put words′ (module-place (n .modules)) (parts (x .a) .low ∷ n .scopes ∷ n .types ∷ n .definitions ∷ n .expressions ∷ 0 ∷ []) words₃
     put = put-append (put-append first second) third
 
-    name-put : word words₃ (module-place (n .modules)) ≡ x .a .low
+    name-put : word words₃ (module-place (n .modules)) ≡ parts (x .a) .low
     name-put = ap (word words₃) (omega arith) ∙ put .inside 0 (omega arith)
 
     pub module-put-as : LinePut LineWord.M file words n t words₃ (LineRead.Is (x .count) (x .end))
@@ -99,7 +99,7 @@ module _ (file t : Text) where
           left = left-then (behind-left n fine behind) (put-left (module-apart n fine room) put);
           line =
               record {
-                entry = a-module (name-by file (x .a .low));
+                entry = a-module (name-by file (parts (x .a) .low));
                 is = is;
                 counts = sym (h .none refl);
                 held = λ few. ap (λ k. a-module (name-by file k)) (sym name-put);
@@ -117,5 +117,5 @@ module _ (file t : Text) where
         read : tails.tail module-shape t ≡ some (tail-by file module-shape x (h .list))
         read = h .is
 
-        is : line-from LineWord.M t ≡ some (record { entry = a-module (name-by file (x .a .low)); rest = drop (x .end) file })
+        is : line-from LineWord.M t ≡ some (record { entry = a-module (name-by file (parts (x .a) .low)); rest = drop (x .end) file })
         is = rw read

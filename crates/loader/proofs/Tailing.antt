@@ -16,10 +16,9 @@ use Rattle.format.specs.Tails as tails
 use Rattle.records.specs.Layout.{each, item-place}
 use Rattle.records.specs.Promises.{Same}
 use Rattle.records.proofs.Lists.{each-same}
-use Rattle.loader.specs.Values.{value-by, three-words-is}
+use Rattle.loader.specs.Values.{parts, value-by, three-words-is}
 use Rattle.loader.specs.Items.{item-by, item-row, items-by, ItemsHeld, ItemsAre}
 use Rattle.loader.specs.Lines.{tail-by, TailHeld, TailIs, TailPut}
-use Rattle.loader.specs.declared.values.Words.{Words}
 use Rattle.loader.specs.declared.values.ThreeWords.{ThreeWords}
 use Rattle.loader.specs.declared.items.ItemsRead.{ItemsRead}
 use Rattle.loader.specs.declared.rows.Tail.{Tail}
@@ -27,8 +26,8 @@ use Rattle.loader.specs.declared.rows.TailRead.{TailRead}
 
 -- what the definition reads where the code has read three fields, and where it has not
 module _ (s t : Text) (ka kb kc : Kind) (r : ThreeWords) (q : three-words-is ka kb kc s r ≡ tails.three ka kb kc t) where
-  pub three-found : (a b c : Words) (e : ℕ) → r ≡ ThreeWords.Are a b c e
-      → tails.three ka kb kc t ≡ some (record { a = value-by ka s a; b = value-by kb s b; c = value-by kc s c; rest = drop e s })
+  pub three-found : (a b c e : ℕ) → r ≡ ThreeWords.Are a b c e
+      → tails.three ka kb kc t ≡ some (record { a = value-by ka s (parts a); b = value-by kb s (parts b); c = value-by kc s (parts c); rest = drop e s })
   three-found a b c e h = sym q ∙ ap (three-words-is ka kb kc s) h
 
   pub three-lost : r ≡ ThreeWords.Wrong → tails.three ka kb kc t ≡ none
@@ -49,7 +48,7 @@ module _ (s : Shape) (file t : Text) where
   unfolding tails.tail
   tail-no-three p = rw p
 
-  module _ (a b c : Words) (e : ℕ) (p : tails.three (s .a) (s .b) (s .c) t ≡ some (record { a = value-by (s .a) file a; b = value-by (s .b) file b; c = value-by (s .c) file c; rest = drop e file })) where
+  module _ (a b c e : ℕ) (p : tails.three (s .a) (s .b) (s .c) t ≡ some (record { a = value-by (s .a) file (parts a); b = value-by (s .b) file (parts b); c = value-by (s .c) file (parts c); rest = drop e file })) where
     pub tail-no-items : tails.items (s .list) (drop e file) ≡ none → tails.tail s t ≡ none
     unfolding tails.tail
     tail-no-items q = rw (p, q)

@@ -21,6 +21,7 @@ use Rattle.records.proofs.Stores.{type-expr-put, type-expr-row-same, same-above
 use Rattle.loader.specs.Items.{Behind}
 use Rattle.loader.specs.Numbers.{type-number}
 use Rattle.loader.specs.State.{row-entry, Left, Fine, HasRoom, counts-after}
+use Rattle.loader.specs.Values.{Words, parts}
 use Rattle.loader.specs.Lines.{tail-by, TailHeld, last-word, LineHeld, LinePut}
 use Rattle.loader.specs.declared.rows.Counts.{Counts}
 use Rattle.loader.specs.declared.rows.Tail.{Tail}
@@ -49,15 +50,15 @@ module _ (file t : Text) where
       type-no-kind e = type-read (tail-by file (type-shape w) x (h .list)) none (h .is) (type-other w (tail-by file (type-shape w) x (h .list)) e)
 
       module _ {words words″ : List ℕ} (fine : Fine file words n) (room : HasRoom LineWord.T n) (known : type-number w ≡ 7 → ⊥) (behind : Behind (n .items) words words′)
-          (put : Put words′ (type-expr-place (n .types)) (type-number w ∷ x .a .low ∷ x .b .low ∷ last-word (type-shape w) x ∷ []) words″) where
+          (put : Put words′ (type-expr-place (n .types)) (type-number w ∷ parts (x .a) .low ∷ parts (x .b) .low ∷ last-word (type-shape w) x ∷ []) words″) where
         kept : TailHeld file words″ (type-shape w) (drop q file) (n .items) x
         kept = tail-kept (same-above put (item-place 0) (item-place max-items) (omega (arith, room))) h
 
-        value : RowOf (type-as w (tail-by file (type-shape w) x (kept .list))) type-expr-items (x .count) (n .items + x .count ≤ max-items) (type-expr-by file words″ (type-number w) (x .a .low) (x .b .low) (last-word (type-shape w) x))
+        value : RowOf (type-as w (tail-by file (type-shape w) x (kept .list))) type-expr-items (x .count) (n .items + x .count ≤ max-items) (type-expr-by file words″ (type-number w) (parts (x .a) .low) (parts (x .b) .low) (last-word (type-shape w) x))
         value = type-row file words″ (drop q file) (n .items) x (fine .items) w kept known
 
-        row-is : type-expr-row file words″ (n .types) ≡ type-expr-by file words″ (type-number w) (x .a .low) (x .b .low) (last-word (type-shape w) x)
-        row-is = type-expr-put file (n .types) (type-number w) (x .a .low) (x .b .low) (last-word (type-shape w) x) put
+        row-is : type-expr-row file words″ (n .types) ≡ type-expr-by file words″ (type-number w) (parts (x .a) .low) (parts (x .b) .low) (last-word (type-shape w) x)
+        row-is = type-expr-put file (n .types) (type-number w) (parts (x .a) .low) (parts (x .b) .low) (last-word (type-shape w) x) put
 
         listed : n .items + x .count ≤ max-items → word words″ (type-expr-place (n .types)) ≡ 5 → Listed (n .items + x .count) (word words″ (type-expr-place (n .types) + 3))
         listed few e =

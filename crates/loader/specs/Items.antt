@@ -11,8 +11,7 @@ use Rattle.format.specs.declared.Listed.{Listed}
 use Rattle.format.specs.Fields.{Value, slot}
 use Rattle.format.specs.Tails.{Item, items, first-kind, second-kind}
 use Rattle.records.specs.Layout.{word, each, item-place, item-value, item-name}
-use Rattle.loader.specs.Values.{value-by}
-use Rattle.loader.specs.declared.values.Words.{Words}
+use Rattle.loader.specs.Values.{Words, value-by}
 use Rattle.loader.specs.declared.items.ItemWords.{ItemWords}
 use Rattle.loader.specs.declared.items.ItemsRead.{ItemsRead}
 

@@ -19,7 +19,7 @@ use Rattle.format.specs.Words.{origin-word-of}
 use Rattle.format.specs.Shapes.{origin-shape, origin-as}
 use Rattle.format.specs.Lines.{Entry, entry-items, word-here, line-from}
 use Rattle.records.specs.Layout.{origin-by}
-use Rattle.loader.specs.Values.{value-by}
+use Rattle.loader.specs.Values.{parts, value-by}
 use Rattle.loader.specs.Items.{items-by, Behind}
 use Rattle.loader.specs.State.{row-entry, Left, Begins, counts-after}
 use Rattle.loader.specs.declared.rows.Counts.{Counts}
@@ -34,9 +34,9 @@ use Rattle.loader.specs.declared.rows.LineRead.{LineRead}
 abbrev pub tail-by : Text → Shape → Tail → List tails.Item → tails.Tail
 tail-by file shape x list =
     record {
-      a = value-by (shape .a) file (x .a);
-      b = value-by (shape .b) file (x .b);
-      c = value-by (shape .c) file (x .c);
+      a = value-by (shape .a) file (parts (x .a));
+      b = value-by (shape .b) file (parts (x .b));
+      c = value-by (shape .c) file (parts (x .c));
       list = list;
       rest = drop (x .end) file;
     }
@@ -73,7 +73,7 @@ is-size Kind.Unused = false
 abbrev pub last-word : Shape → Tail → ℕ
 last-word shape x =
     elim (tails.is-empty-list (shape .list)) [
-      | true ↦ elim (is-size (shape .b)) [ true ↦ x .b .high | false ↦ x .c .low ]
+      | true ↦ elim (is-size (shape .b)) [ true ↦ parts (x .b) .high | false ↦ parts (x .c) .low ]
       | false ↦ x .list
     ]
 

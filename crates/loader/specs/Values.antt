@@ -1,5 +1,5 @@
 -- What the words of a field hold, by the field's kind. Assumes nothing.
-use Prim.Native.Nat.{ℕ}
+use Prim.Native.Nat.{ℕ, _/_, _%_}
 use mathlib.Core.Bool.{Bool, true, false}
 use mathlib.Core.Option.{Option, none, some}
 use lib.ListN.{drop}
@@ -8,9 +8,17 @@ use Rattle.format.specs.declared.Kind.{Kind}
 use Rattle.format.specs.Fields.{Value, absent, number, text, Read}
 use Rattle.format.specs.Tails.{Three}
 use Rattle.records.specs.Layout.{link-by, name-by, suffix-by, size-by}
-use Rattle.loader.specs.declared.values.Words.{Words}
 use Rattle.loader.specs.declared.values.SlotWords.{SlotWords}
 use Rattle.loader.specs.declared.values.ThreeWords.{ThreeWords}
+
+-- a field's word, and the high word of an array's size
+pub record Words : Type 0 where
+  pub low : ℕ
+  pub high : ℕ
+
+-- both as one number
+abbrev pub parts : ℕ → Words
+parts w = record { low = w % 4294967296; high = w / 4294967296 }
 
 -- a link or `-`
 abbrev pub linked : Option ℕ → Value
@@ -49,10 +57,10 @@ is-link Kind.BinaryOp = false
 is-link Kind.Unused = false
 
 abbrev pub slot-words-is : Kind → Text → SlotWords → Option Read
-slot-words-is k file (SlotWords.Are w e) = some (record { value = value-by k file w; rest = drop e file })
+slot-words-is k file (SlotWords.Are w e) = some (record { value = value-by k file (parts w); rest = drop e file })
 slot-words-is k file SlotWords.Wrong = none
 
 abbrev pub three-words-is : Kind → Kind → Kind → Text → ThreeWords → Option Three
 three-words-is ka kb kc file (ThreeWords.Are a b c e) =
-    some (record { a = value-by ka file a; b = value-by kb file b; c = value-by kc file c; rest = drop e file })
+    some (record { a = value-by ka file (parts a); b = value-by kb file (parts b); c = value-by kc file (parts c); rest = drop e file })
 three-words-is ka kb kc file ThreeWords.Wrong = none

@@ -89,9 +89,9 @@ fn item_words(file: &[u8], listed: Listed, at: usize) -> ItemWords
         return ItemWords::Wrong;
     };
     if is_named(listed) {
-        return ItemWords::Are(b.low, a.low, eb);
+        return ItemWords::Are((b % values::HIGH) as u32, (a % values::HIGH) as u32, eb);
     }
-    ItemWords::Are(a.low, 0, eb)
+    ItemWords::Are((a % values::HIGH) as u32, 0, eb)
 }
 
 // An item past the last is read but not written: the form of a line is judged before the limit.

@@ -13,9 +13,9 @@ use crate::items;
 use crate::items::ItemsRead;
 use crate::shapes;
 use crate::values;
+use crate::values::HIGH;
 use crate::values::SlotWords;
 use crate::values::ThreeWords;
-use crate::values::Words;
 use fields::Word;
 use format::Kind;
 use format::Listed;
@@ -36,9 +36,9 @@ pub struct Counts {
 
 // What stands behind a word: three fields' words, the list's word and how many items it has, and where all that ends.
 pub struct Tail {
-    pub a: Words,
-    pub b: Words,
-    pub c: Words,
+    pub a: u64,
+    pub b: u64,
+    pub c: u64,
     pub list: u32,
     pub count: usize,
     pub end: usize,
@@ -65,7 +65,7 @@ fn list_word(first: usize, count: usize) -> u32
     if items::MAX_ITEMS < count {
         return 0;
     }
-    values::part_word(first, count)
+    (first + 65536 * count) as u32
 }
 
 fn read_tail(file: &[u8], shape: Shape, at: usize, words: &mut [u32], first: usize) -> TailRead
@@ -117,9 +117,9 @@ fn last_word(shape: Shape, tail: Tail) -> u32
     if items::is_empty_list(listed) {
         let kb = shape.b;
         if is_size(kb) {
-            return tail.b.high;
+            return (tail.b / HIGH) as u32;
         }
-        return tail.c.low;
+        return (tail.c % HIGH) as u32;
     }
     tail.list
 }
@@ -153,7 +153,7 @@ pub fn read_module(file: &[u8], at: usize, words: &mut [u32], n: Counts) -> Line
         return LineRead::Wrong;
     };
     let row = records::MODULES + 8 * n.modules;
-    put_two(words, row, tail.a.low, n.scopes as u32);
+    put_two(words, row, (tail.a % HIGH) as u32, n.scopes as u32);
     put_two(words, row + 2, n.types as u32, n.definitions as u32);
     put_two(words, row + 4, n.expressions as u32, 0);
     LineRead::Is(tail.count, tail.end)
@@ -186,13 +186,13 @@ pub fn read_scope(file: &[u8], at: usize, words: &mut [u32], n: Counts) -> LineR
     let TailRead::Is(tail) = read_tail(file, shapes::bare(), q, words, n.items) else {
         return LineRead::Wrong;
     };
-    if !scope_fits(parent.low, word) {
+    if !scope_fits((parent % HIGH) as u32, word) {
         return LineRead::Wrong;
     }
     put_two(
         words,
         records::SCOPES + 2 * n.scopes,
-        parent.low,
+        (parent % HIGH) as u32,
         shapes::scope_number(word),
     );
     LineRead::Is(tail.count, tail.end)
@@ -219,8 +219,8 @@ pub fn read_type(file: &[u8], at: usize, words: &mut [u32], n: Counts) -> LineRe
         words,
         records::TYPE_EXPRS + 4 * n.types,
         kind,
-        tail.a.low,
-        tail.b.low,
+        (tail.a % HIGH) as u32,
+        (tail.b % HIGH) as u32,
         last_word(shape, tail),
     );
     LineRead::Is(tail.count, tail.end)
@@ -273,20 +273,34 @@ pub fn read_definition(file: &[u8], at: usize, words: &mut [u32], n: Counts) -> 
     if kind == 7 {
         return LineRead::Wrong;
     }
-    if !path_fits(kind, tail.c.low, tail.count) {
+    if !path_fits(kind, (tail.c % HIGH) as u32, tail.count) {
         return LineRead::Wrong;
     }
     let row = records::DEFINITIONS + 12 * n.definitions;
-    put_four(words, row, kind, scope.low, name.low, name_start.low);
+    put_four(
+        words,
+        row,
+        kind,
+        (scope % HIGH) as u32,
+        (name % HIGH) as u32,
+        (name_start % HIGH) as u32,
+    );
     put_four(
         words,
         row + 4,
-        name_end.low,
-        full_start.low,
-        full_end.low,
-        tail.a.low,
+        (name_end % HIGH) as u32,
+        (full_start % HIGH) as u32,
+        (full_end % HIGH) as u32,
+        (tail.a % HIGH) as u32,
     );
-    put_four(words, row + 8, tail.b.low, tail.c.low, tail.list, 0);
+    put_four(
+        words,
+        row + 8,
+        (tail.b % HIGH) as u32,
+        (tail.c % HIGH) as u32,
+        tail.list,
+        0,
+    );
     LineRead::Is(tail.count, tail.end)
 }
 
@@ -310,9 +324,9 @@ pub fn read_question(file: &[u8], at: usize, words: &mut [u32], n: Counts) -> Li
         words,
         records::QUESTIONS + 4 * n.questions,
         kind,
-        tail.a.low,
-        tail.b.low,
-        tail.c.low,
+        (tail.a % HIGH) as u32,
+        (tail.b % HIGH) as u32,
+        (tail.c % HIGH) as u32,
     );
     LineRead::Is(tail.count, tail.end)
 }
@@ -342,7 +356,7 @@ fn read_origin(file: &[u8], at: usize) -> OriginRead
     if kind == 6 {
         return OriginRead::Wrong;
     }
-    OriginRead::Is(kind, link.low, value.low, e)
+    OriginRead::Is(kind, (link % HIGH) as u32, (value % HIGH) as u32, e)
 }
 
 // E
@@ -388,12 +402,24 @@ pub fn read_expression(file: &[u8], at: usize, words: &mut [u32], n: Counts) -> 
         words,
         row,
         node + 256 * origin,
-        scope.low,
-        start.low,
-        end.low,
+        (scope % HIGH) as u32,
+        (start % HIGH) as u32,
+        (end % HIGH) as u32,
     );
-    put_four(words, row + 4, expected.low, definition.low, link, value);
-    put_two(words, row + 8, tail.a.low, tail.b.low);
+    put_four(
+        words,
+        row + 4,
+        (expected % HIGH) as u32,
+        (definition % HIGH) as u32,
+        link,
+        value,
+    );
+    put_two(
+        words,
+        row + 8,
+        (tail.a % HIGH) as u32,
+        (tail.b % HIGH) as u32,
+    );
     words[row + 10] = last_word(shape, tail);
     LineRead::Is(tail.count, tail.end)
 }

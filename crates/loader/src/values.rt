@@ -9,21 +9,18 @@ use fields::Slot;
 use fields::Value;
 use format::Kind;
 
-// A field's word, and the high word of an array's size.
-pub struct Words {
-    pub low: u32,
-    pub high: u32,
-}
+// A number from here on has a high word.
+pub const HIGH: u64 = 4294967296;
 
-// A field's words, and where it ends.
+// A field's words as one number, the low word first, and where the field ends. Only an array's size has a high word.
 pub enum SlotWords {
-    Are(Words, usize),
+    Are(u64, usize),
     Wrong,
 }
 
 // Three fields' words, and where the last ends.
 pub enum ThreeWords {
-    Are(Words, Words, Words, usize),
+    Are(u64, u64, u64, usize),
     Wrong,
 }
 
@@ -44,30 +41,12 @@ fn is_link(kind: Kind) -> bool
     }
 }
 
-fn low_word(n: u64) -> u32
-    ensures { λ r. ⌜ r ≡ n % 4294967296 ⌝ }
-{
-    (n % 4294967296) as u32
-}
-
-fn high_word(n: u64) -> u32
-    ensures { λ r. ⌜ r ≡ n / 4294967296 ⌝ }
-{
-    (n / 4294967296) as u32
-}
-
-fn link_word(n: u64) -> u32
-    requires { ⌜ n ≤ 65535 ⌝ }
-    ensures { λ r. ⌜ r ≡ n + 1 ⌝ }
-{
-    (n + 1) as u32
-}
-
-pub fn part_word(start: usize, count: usize) -> u32
+// The words of a name: where it begins, and how long it is.
+fn name_words(start: usize, count: usize) -> u64
     requires { ⌜ (start < 65536) × (count < 65536) ⌝ }
     ensures { λ r. ⌜ r ≡ start + 65536 * count ⌝ }
 {
-    (start + 65536 * count) as u32
+    (start + 65536 * count) as u64
 }
 
 pub fn slot_words(file: &[u8], kind: Kind, at: usize) -> SlotWords
@@ -78,32 +57,14 @@ pub fn slot_words(file: &[u8], kind: Kind, at: usize) -> SlotWords
         return SlotWords::Wrong;
     };
     match v {
-        Value::Absent => SlotWords::Are(Words { low: 0, high: 0 }, e),
+        Value::Absent => SlotWords::Are(0, e),
         Value::Number(n) => {
             if is_link(kind) {
-                return SlotWords::Are(
-                    Words {
-                        low: link_word(n),
-                        high: 0,
-                    },
-                    e,
-                );
+                return SlotWords::Are(n + 1, e);
             }
-            SlotWords::Are(
-                Words {
-                    low: low_word(n),
-                    high: high_word(n),
-                },
-                e,
-            )
+            SlotWords::Are(n, e)
         }
-        Value::Text(p, n) => SlotWords::Are(
-            Words {
-                low: part_word(p, n),
-                high: 0,
-            },
-            e,
-        ),
+        Value::Text(p, n) => SlotWords::Are(name_words(p, n), e),
     }
 }
 

@@ -1,13 +1,11 @@
 -- `fields::value_at` meets its contract. Assumes nothing.
-use mathlib.Core.Path.{refl, sym, _∙_}
+use mathlib.Core.Path.{sym, _∙_}
 use native.Mathlib.Omega.{arith}
 use lib.ListN.{drop}
-use Rattle.model.specs.Common.{eq-numbers}
 use Rattle.format.specs.declared.Kind.{Kind}
 use Rattle.format.specs.Fields.{value-of}
-use Rattle.words.proofs.Tables.{maps-from}
 use Rattle.fields.proofs.Numbers.{is-empty-of, begins-here}
-use Rattle.fields.proofs.Slots.{empty-wrong, nothing-wrong, of-kind, unary-op-is, binary-op-is}
+use Rattle.fields.proofs.Slots.{empty-wrong, nothing-wrong, of-kind}
 use borrow.Author.Needs.{needs}
 use Rattle.fields.proofs.value_at.Statement.{statement}
 use Rattle.fields.proofs.value_at.Tie as tie
@@ -18,7 +16,8 @@ use Rattle.fields.proofs.maybe_name_at.Reads as maybe-name-at-reads
 use Rattle.fields.proofs.maybe_number_at.Reads as maybe-number-at-reads
 use Rattle.fields.proofs.name_at.Reads as name-at-reads
 use Rattle.fields.proofs.number_at.Reads as number-at-reads
-use Rattle.fields.proofs.operator_at.Reads as operator-at-reads
+use Rattle.fields.proofs.unary_op_at.Reads as unary-op-at-reads
+use Rattle.fields.proofs.binary_op_at.Reads as binary-op-at-reads
 use Rattle.fields.proofs.unused_at.Reads as unused-at-reads
 
 -- src/lib.rt:192:8
@@ -87,29 +86,21 @@ maybe-name-at-requires c κs = search needs
 enum-told-8 : tie.Need-enum-told-8
 enum-told-8 c = search needs
 
--- src/lib.rt:203:50
-slice-aggregate-operator-at : tie.Need-slice-aggregate-operator-at
-slice-aggregate-operator-at c = search needs
-
 -- src/lib.rt:203:26
-operator-at-requires : tie.Need-operator-at-requires
-operator-at-requires c κs =
-    let a = c .before .before .before .before .before .before .before .args in
-    omega (arith, begins-here (a .file .now) (a .from) (sym (c .before .before .before .before .before .is-end .ensures) ∙ c .before .before .before .before .if1 .left))
+unary-op-at-requires : tie.Need-unary-op-at-requires
+unary-op-at-requires c κs =
+    let a = c .before .before .before .before .before .args in
+    omega (arith, begins-here (a .file .now) (a .from) (sym (c .before .before .before .is-end .ensures) ∙ c .before .before .if1 .left))
 
 -- src/lib.rt:204:51
 enum-told-9 : tie.Need-enum-told-9
 enum-told-9 c = search needs
 
--- src/lib.rt:204:51
-slice-aggregate-operator-at-2 : tie.Need-slice-aggregate-operator-at-2
-slice-aggregate-operator-at-2 c = search needs
-
 -- src/lib.rt:204:27
-operator-at-requires-2 : tie.Need-operator-at-requires-2
-operator-at-requires-2 c κs =
-    let a = c .before .before .before .before .before .before .before .args in
-    omega (arith, begins-here (a .file .now) (a .from) (sym (c .before .before .before .before .before .is-end .ensures) ∙ c .before .before .before .before .if1 .left))
+binary-op-at-requires : tie.Need-binary-op-at-requires
+binary-op-at-requires c κs =
+    let a = c .before .before .before .before .before .args in
+    omega (arith, begins-here (a .file .now) (a .from) (sym (c .before .before .before .is-end .ensures) ∙ c .before .before .if1 .left))
 
 -- src/lib.rt:205:25
 enum-told-10 : tie.Need-enum-told-10
@@ -167,17 +158,15 @@ returns-8 c =
 
 -- src/lib.rt:189:1
 returns-9 : tie.Need-returns-9
-unfolding maps-from eq-numbers
 returns-9 c =
-    let a = c .before .before .before .before .before .before .before .before .args in
-    unary-op-is (drop (a .from) (a .file .now)) _ _ (a .kind) _ (c .operator-at .ensures) refl (c .before .before .before .enum-told8 .given .1)
+    let a = c .before .before .before .before .before .before .args in
+    c .unary-op-at .ensures ∙ of-kind (a .kind) Kind.UnaryOp (drop (a .from) (a .file .now)) (c .before .enum-told8 .given .1)
 
 -- src/lib.rt:189:1
 returns-10 : tie.Need-returns-10
-unfolding maps-from eq-numbers
 returns-10 c =
-    let a = c .before .before .before .before .before .before .before .before .args in
-    binary-op-is (drop (a .from) (a .file .now)) _ _ (a .kind) _ (c .operator-at2 .ensures) refl (c .before .before .before .enum-told9 .given .1)
+    let a = c .before .before .before .before .before .before .args in
+    c .binary-op-at .ensures ∙ of-kind (a .kind) Kind.BinaryOp (drop (a .from) (a .file .now)) (c .before .enum-told9 .given .1)
 
 -- src/lib.rt:189:1
 returns-11 : tie.Need-returns-11
@@ -205,11 +194,9 @@ value-at-spec =
     enum-told-7
     maybe-name-at-requires
     enum-told-8
-    slice-aggregate-operator-at
-    operator-at-requires
+    unary-op-at-requires
     enum-told-9
-    slice-aggregate-operator-at-2
-    operator-at-requires-2
+    binary-op-at-requires
     enum-told-10
     unused-at-requires
     returns-2

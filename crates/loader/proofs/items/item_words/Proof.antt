@@ -3,7 +3,7 @@ use mathlib.Core.Path.{_≡_, sym, subst, _∙_}
 use lib.ListN.{drop}
 use Rattle.format.specs.Fields.{slot}
 use Rattle.format.specs.Tails.{first-kind, second-kind}
-use Rattle.loader.specs.Values.{slot-words-is}
+use Rattle.loader.specs.Values.{parts, slot-words-is}
 use Rattle.loader.proofs.Holding.{words-found, words-lost}
 use Rattle.loader.proofs.Listing.{no-first, no-second, item-with-name, item-plain}
 use borrow.Author.Needs.{needs}
@@ -68,13 +68,25 @@ returns-2 c =
 is-named-requires : tie.Need-is-named-requires
 is-named-requires c κs = search needs
 
+-- src/items.rt:92:31
+cast-t13 : tie.Need-cast-t13
+cast-t13 c = search needs
+
+-- src/items.rt:92:58
+cast-t15 : tie.Need-cast-t15
+cast-t15 c = search needs
+
 -- src/items.rt:92:9
 returns-3 : tie.Need-returns-3
 returns-3 c =
     let a = (c .before .before .before .before .before .before .before .before .before .before .before .before .before .args) in
     let s = a .file .now in
     let l = a .listed in
-    item-with-name l s _ (c .before .before .before .before .before .before .before .before .a .given .0 .0) (c .before .before .before .b .given .0 .0) (c .before .before .before .before .before .before .before .before .a .given .0 .1 .0) (c .before .before .before .b .given .0 .1 .0) (words-found s (drop (a .at) s) (first-kind l) ((c .before .before .before .before .before .before .before .before .before .before .slot-words) .result) (subst (λ k. slot-words-is k s ((c .before .before .before .before .before .before .before .before .before .before .slot-words) .result) ≡ slot k (drop (a .at) s)) ((c .before .before .before .before .before .before .before .before .before .before .before .first-kind) .ensures) ((c .before .before .before .before .before .before .before .before .before .before .slot-words) .ensures)) ((c .before .before .before .before .before .before .before .before .a) .given .0 .0) ((c .before .before .before .before .before .before .before .before .a) .given .0 .1 .0) ((c .before .before .before .before .before .before .before .before .a) .given .1)) (words-found s (drop ((c .before .before .before .before .before .before .before .before .a) .given .0 .1 .0) s) (second-kind l) ((c .before .before .before .before .before .slot-words2) .result) (subst (λ k. slot-words-is k s ((c .before .before .before .before .before .slot-words2) .result) ≡ slot k (drop ((c .before .before .before .before .before .before .before .before .a) .given .0 .1 .0) s)) ((c .before .before .before .before .before .before .second-kind) .ensures) ((c .before .before .before .before .before .slot-words2) .ensures)) ((c .before .before .before .b) .given .0 .0) ((c .before .before .before .b) .given .0 .1 .0) ((c .before .before .before .b) .given .1)) (sym ((c .before .is-named) .ensures) ∙ (c .if1) .taken)
+    item-with-name l s _ (parts ((c .before .before .before .before .before .before .before .before .a) .given .0 .0)) (parts ((c .before .before .before .b) .given .0 .0)) ((c .before .before .before .before .before .before .before .before .a) .given .0 .1 .0) ((c .before .before .before .b) .given .0 .1 .0) (words-found s (drop (a .at) s) (first-kind l) ((c .before .before .before .before .before .before .before .before .before .before .slot-words) .result) (subst (λ k. slot-words-is k s ((c .before .before .before .before .before .before .before .before .before .before .slot-words) .result) ≡ slot k (drop (a .at) s)) ((c .before .before .before .before .before .before .before .before .before .before .before .first-kind) .ensures) ((c .before .before .before .before .before .before .before .before .before .before .slot-words) .ensures)) ((c .before .before .before .before .before .before .before .before .a) .given .0 .0) ((c .before .before .before .before .before .before .before .before .a) .given .0 .1 .0) ((c .before .before .before .before .before .before .before .before .a) .given .1)) (words-found s (drop ((c .before .before .before .before .before .before .before .before .a) .given .0 .1 .0) s) (second-kind l) ((c .before .before .before .before .before .slot-words2) .result) (subst (λ k. slot-words-is k s ((c .before .before .before .before .before .slot-words2) .result) ≡ slot k (drop ((c .before .before .before .before .before .before .before .before .a) .given .0 .1 .0) s)) ((c .before .before .before .before .before .before .second-kind) .ensures) ((c .before .before .before .before .before .slot-words2) .ensures)) ((c .before .before .before .b) .given .0 .0) ((c .before .before .before .b) .given .0 .1 .0) ((c .before .before .before .b) .given .1)) (sym ((c .before .is-named) .ensures) ∙ (c .if1) .taken)
+
+-- src/items.rt:94:20
+cast-t17 : tie.Need-cast-t17
+cast-t17 c = search needs
 
 -- src/items.rt:81:1
 returns-4 : tie.Need-returns-4
@@ -82,7 +94,7 @@ returns-4 c =
     let a = (c .before .before .before .before .before .before .before .before .before .before .before .before .before .args) in
     let s = a .file .now in
     let l = a .listed in
-    item-plain l s _ (c .before .before .before .before .before .before .before .before .a .given .0 .0) (c .before .before .before .b .given .0 .0) (c .before .before .before .before .before .before .before .before .a .given .0 .1 .0) (c .before .before .before .b .given .0 .1 .0) (words-found s (drop (a .at) s) (first-kind l) ((c .before .before .before .before .before .before .before .before .before .before .slot-words) .result) (subst (λ k. slot-words-is k s ((c .before .before .before .before .before .before .before .before .before .before .slot-words) .result) ≡ slot k (drop (a .at) s)) ((c .before .before .before .before .before .before .before .before .before .before .before .first-kind) .ensures) ((c .before .before .before .before .before .before .before .before .before .before .slot-words) .ensures)) ((c .before .before .before .before .before .before .before .before .a) .given .0 .0) ((c .before .before .before .before .before .before .before .before .a) .given .0 .1 .0) ((c .before .before .before .before .before .before .before .before .a) .given .1)) (words-found s (drop ((c .before .before .before .before .before .before .before .before .a) .given .0 .1 .0) s) (second-kind l) ((c .before .before .before .before .before .slot-words2) .result) (subst (λ k. slot-words-is k s ((c .before .before .before .before .before .slot-words2) .result) ≡ slot k (drop ((c .before .before .before .before .before .before .before .before .a) .given .0 .1 .0) s)) ((c .before .before .before .before .before .before .second-kind) .ensures) ((c .before .before .before .before .before .slot-words2) .ensures)) ((c .before .before .before .b) .given .0 .0) ((c .before .before .before .b) .given .0 .1 .0) ((c .before .before .before .b) .given .1)) (sym ((c .before .is-named) .ensures) ∙ (c .if1) .left)
+    item-plain l s _ (parts ((c .before .before .before .before .before .before .before .before .a) .given .0 .0)) (parts ((c .before .before .before .b) .given .0 .0)) ((c .before .before .before .before .before .before .before .before .a) .given .0 .1 .0) ((c .before .before .before .b) .given .0 .1 .0) (words-found s (drop (a .at) s) (first-kind l) ((c .before .before .before .before .before .before .before .before .before .before .slot-words) .result) (subst (λ k. slot-words-is k s ((c .before .before .before .before .before .before .before .before .before .before .slot-words) .result) ≡ slot k (drop (a .at) s)) ((c .before .before .before .before .before .before .before .before .before .before .before .first-kind) .ensures) ((c .before .before .before .before .before .before .before .before .before .before .slot-words) .ensures)) ((c .before .before .before .before .before .before .before .before .a) .given .0 .0) ((c .before .before .before .before .before .before .before .before .a) .given .0 .1 .0) ((c .before .before .before .before .before .before .before .before .a) .given .1)) (words-found s (drop ((c .before .before .before .before .before .before .before .before .a) .given .0 .1 .0) s) (second-kind l) ((c .before .before .before .before .before .slot-words2) .result) (subst (λ k. slot-words-is k s ((c .before .before .before .before .before .slot-words2) .result) ≡ slot k (drop ((c .before .before .before .before .before .before .before .before .a) .given .0 .1 .0) s)) ((c .before .before .before .before .before .before .second-kind) .ensures) ((c .before .before .before .before .before .slot-words2) .ensures)) ((c .before .before .before .b) .given .0 .0) ((c .before .before .before .b) .given .0 .1 .0) ((c .before .before .before .b) .given .1)) (sym ((c .before .is-named) .ensures) ∙ (c .if1) .left)
 
 pub item-words-spec : {M : Type 1} → statement M
 item-words-spec =
@@ -99,5 +111,8 @@ item-words-spec =
     enum-told-2
     returns-2
     is-named-requires
+    cast-t13
+    cast-t15
     returns-3
+    cast-t17
     returns-4)

@@ -13,27 +13,27 @@ use Rattle.loader.proofs.rows.put_two.Reads as put-two-reads
 use Rattle.loader.proofs.rows.read_tail.Reads as read-tail-reads
 use Rattle.loader.proofs.shapes.module_shape.Reads as module-shape-reads
 
--- src/rows.rt:145:46
+-- src/rows.rt:152:46
 module-shape-requires : tie.Need-module-shape-requires
 module-shape-requires c κs = search needs
 
--- src/rows.rt:145:30
+-- src/rows.rt:152:30
 read-tail-requires : tie.Need-read-tail-requires
 read-tail-requires c κs = search needs
 
--- src/rows.rt:145:22
+-- src/rows.rt:152:22
 enum-known-tail : tie.Need-enum-known-tail
 enum-known-tail c = search needs
 
--- src/rows.rt:146:9
+-- src/rows.rt:153:9
 enum-told : tie.Need-enum-told
 enum-told c = search needs
 
--- src/rows.rt:146:9
+-- src/rows.rt:153:9
 same-length : tie.Need-same-length
 same-length c = search needs
 
--- src/rows.rt:146:9
+-- src/rows.rt:153:9
 returns : tie.Need-returns
 returns c =
     let a = (c .before .before .before .before .before .before .before .before .before .args) in
@@ -41,61 +41,65 @@ returns c =
     let tp = tail-put-as {words′ = (c .before .before .before .before .read-tail) .last .1 .1 .1 .0} ((c .before .before .before .before .before .before .module-shape) .ensures) ((c .before .before .before .before .read-tail) .ensures) in
     record { left = behind-left (a .n) ((c .before .before .before .before .before .before .before .before .before .pre) .0) (tp .behind); line = module-no-tail s _ (tail-none s _ _ _ _ (tp .tail) ((c .enum-told) .given .1)) }
 
--- src/rows.rt:148:34
+-- src/rows.rt:155:34
 mul-row : tie.Need-mul-row
 mul-row c = search needs
 
--- src/rows.rt:148:15
+-- src/rows.rt:155:15
 add-row : tie.Need-add-row
 add-row c = search needs
 
--- src/rows.rt:149:37
+-- src/rows.rt:156:25
 cast-put-two : tie.Need-cast-put-two
-cast-put-two c = omega (arith, (c .before .before .before .before .before .before .before .before .before .before .before .before .before .pre) .0 .scopes)
+cast-put-two c = search needs
 
--- src/rows.rt:149:5
-put-two-requires : tie.Need-put-two-requires
-put-two-requires c κs = omega (arith, (c .before .before .before .before .before .before .before .before .before .before .before .before .before .pre) .0 .room, (c .before .before .before .before .before .before .before .before .before .before .before .before .before .pre) .1, (c .before .before .before .before .before .before .before .before .read-tail) .ensures .behind .long)
-
--- src/rows.rt:150:20
-add-put-two : tie.Need-add-put-two
-add-put-two c = omega (arith, (c .before .before .before .before .before .before .before .before .before .before .before .before .before .before .before .before .before .pre) .1)
-
--- src/rows.rt:150:29
+-- src/rows.rt:156:49
 cast-put-two-2 : tie.Need-cast-put-two-2
-cast-put-two-2 c = omega (arith, (c .before .before .before .before .before .before .before .before .before .before .before .before .before .before .before .before .before .before .pre) .0 .types)
+cast-put-two-2 c = omega (arith, c .before .before .before .before .before .before .before .before .before .before .before .before .before .before .pre .0 .scopes)
 
--- src/rows.rt:150:45
+-- src/rows.rt:156:5
+put-two-requires : tie.Need-put-two-requires
+put-two-requires c κs = omega (arith, (c .before .before .before .before .before .before .before .before .before .before .before .before .before .before .pre) .0 .room, (c .before .before .before .before .before .before .before .before .before .before .before .before .before .before .pre) .1, (c .before .before .before .before .before .before .before .before .before .read-tail) .ensures .behind .long)
+
+-- src/rows.rt:157:20
+add-put-two : tie.Need-add-put-two
+add-put-two c = omega (arith, (c .before .before .before .before .before .before .before .before .before .before .before .before .before .before .before .before .before .before .pre) .1)
+
+-- src/rows.rt:157:29
 cast-put-two-3 : tie.Need-cast-put-two-3
-cast-put-two-3 c = omega (arith, (c .before .before .before .before .before .before .before .before .before .before .before .before .before .before .before .before .before .before .before .pre) .0 .definitions)
+cast-put-two-3 c = omega (arith, c .before .before .before .before .before .before .before .before .before .before .before .before .before .before .before .before .before .before .before .pre .0 .types)
 
--- src/rows.rt:150:5
-put-two-requires-2 : tie.Need-put-two-requires-2
-put-two-requires-2 c κs = omega (arith, (c .before .before .before .before .before .before .before .before .before .before .before .before .before .before .before .before .before .before .before .pre) .0 .room, (c .before .before .before .before .before .before .before .before .before .before .before .before .before .before .before .before .before .before .before .pre) .1, (c .before .before .before .before .before .before .before .before .before .before .before .before .before .before .read-tail) .ensures .behind .long, (c .before .before .before .before .before .put-two) .ensures .long)
-
--- src/rows.rt:151:20
-add-put-two-2 : tie.Need-add-put-two-2
-add-put-two-2 c = omega (arith, (c .before .before .before .before .before .before .before .before .before .before .before .before .before .before .before .before .before .before .before .before .before .before .before .pre) .1)
-
--- src/rows.rt:151:29
+-- src/rows.rt:157:45
 cast-put-two-4 : tie.Need-cast-put-two-4
-cast-put-two-4 c = omega (arith, (c .before .before .before .before .before .before .before .before .before .before .before .before .before .before .before .before .before .before .before .before .before .before .before .before .pre) .0 .expressions)
+cast-put-two-4 c = omega (arith, c .before .before .before .before .before .before .before .before .before .before .before .before .before .before .before .before .before .before .before .before .pre .0 .definitions)
 
--- src/rows.rt:151:5
+-- src/rows.rt:157:5
+put-two-requires-2 : tie.Need-put-two-requires-2
+put-two-requires-2 c κs = omega (arith, (c .before .before .before .before .before .before .before .before .before .before .before .before .before .before .before .before .before .before .before .before .pre) .0 .room, (c .before .before .before .before .before .before .before .before .before .before .before .before .before .before .before .before .before .before .before .before .pre) .1, (c .before .before .before .before .before .before .before .before .before .before .before .before .before .before .before .read-tail) .ensures .behind .long, (c .before .before .before .before .before .put-two) .ensures .long)
+
+-- src/rows.rt:158:20
+add-put-two-2 : tie.Need-add-put-two-2
+add-put-two-2 c = omega (arith, (c .before .before .before .before .before .before .before .before .before .before .before .before .before .before .before .before .before .before .before .before .before .before .before .before .pre) .1)
+
+-- src/rows.rt:158:29
+cast-put-two-5 : tie.Need-cast-put-two-5
+cast-put-two-5 c = omega (arith, c .before .before .before .before .before .before .before .before .before .before .before .before .before .before .before .before .before .before .before .before .before .before .before .before .before .pre .0 .expressions)
+
+-- src/rows.rt:158:5
 put-two-requires-3 : tie.Need-put-two-requires-3
-put-two-requires-3 c κs = omega (arith, (c .before .before .before .before .before .before .before .before .before .before .before .before .before .before .before .before .before .before .before .before .before .before .before .before .pre) .0 .room, (c .before .before .before .before .before .before .before .before .before .before .before .before .before .before .before .before .before .before .before .before .before .before .before .before .pre) .1, (c .before .before .before .before .before .before .before .before .before .before .before .before .before .before .before .before .before .before .before .read-tail) .ensures .behind .long, (c .before .before .before .before .before .before .before .before .before .before .put-two) .ensures .long, (c .before .before .before .before .put-two2) .ensures .long)
+put-two-requires-3 c κs = omega (arith, (c .before .before .before .before .before .before .before .before .before .before .before .before .before .before .before .before .before .before .before .before .before .before .before .before .before .pre) .0 .room, (c .before .before .before .before .before .before .before .before .before .before .before .before .before .before .before .before .before .before .before .before .before .before .before .before .before .pre) .1, (c .before .before .before .before .before .before .before .before .before .before .before .before .before .before .before .before .before .before .before .before .read-tail) .ensures .behind .long, (c .before .before .before .before .before .before .before .before .before .before .put-two) .ensures .long, (c .before .before .before .before .put-two2) .ensures .long)
 
--- src/rows.rt:141:1
+-- src/rows.rt:148:1
 same-length-2 : tie.Need-same-length-2
-same-length-2 c = (c .before .before .put-two3) .ensures .long ∙ (c .before .before .before .before .before .before .before .put-two2) .ensures .long ∙ (c .before .before .before .before .before .before .before .before .before .before .before .before .before .put-two) .ensures .long ∙ (c .before .before .before .before .before .before .before .before .before .before .before .before .before .before .before .before .before .before .before .before .before .before .read-tail) .ensures .behind .long
+same-length-2 c = (c .before .before .put-two3) .ensures .long ∙ (c .before .before .before .before .before .before .before .put-two2) .ensures .long ∙ (c .before .before .before .before .before .before .before .before .before .before .before .before .before .put-two) .ensures .long ∙ (c .before .before .before .before .before .before .before .before .before .before .before .before .before .before .before .before .before .before .before .before .before .before .before .read-tail) .ensures .behind .long
 
--- src/rows.rt:141:1
+-- src/rows.rt:148:1
 returns-2 : tie.Need-returns-2
 returns-2 c =
-    let a = (c .before .before .before .before .before .before .before .before .before .before .before .before .before .before .before .before .before .before .before .before .before .before .before .before .before .before .before .args) in
+    let a = (c .before .before .before .before .before .before .before .before .before .before .before .before .before .before .before .before .before .before .before .before .before .before .before .before .before .before .before .before .args) in
     let s = a .file .now in
-    let tp = tail-put-as {words′ = (c .before .before .before .before .before .before .before .before .before .before .before .before .before .before .before .before .before .before .before .before .before .before .read-tail) .last .1 .1 .1 .0} ((c .before .before .before .before .before .before .before .before .before .before .before .before .before .before .before .before .before .before .before .before .before .before .before .before .module-shape) .ensures) ((c .before .before .before .before .before .before .before .before .before .before .before .before .before .before .before .before .before .before .before .before .before .before .read-tail) .ensures) in
-    module-put-as s _ (a .n) ((c .before .before .before .before .before .before .before .before .before .before .before .before .before .before .before .before .before .before .tail) .given .0 .0) (tail-of s _ _ _ (a .n .items) (tp .tail) ((c .before .before .before .before .before .before .before .before .before .before .before .before .before .before .before .before .before .before .tail) .given .0 .0) ((c .before .before .before .before .before .before .before .before .before .before .before .before .before .before .before .before .before .before .tail) .given .1)) ((c .before .before .before .before .before .before .before .before .before .before .before .before .before .before .before .before .before .before .before .before .before .before .before .before .before .before .before .pre) .0) ((c .before .before .before .before .before .before .before .before .before .before .before .before .before .before .before .before .before .before .before .before .before .before .before .before .before .before .before .pre) .1) (tp .behind) ((c .before .before .before .before .before .before .before .before .before .before .before .before .before .put-two) .ensures) ((c .before .before .before .before .before .before .before .put-two2) .ensures) ((c .before .before .put-two3) .ensures)
+    let tp = tail-put-as {words′ = (c .before .before .before .before .before .before .before .before .before .before .before .before .before .before .before .before .before .before .before .before .before .before .before .read-tail) .last .1 .1 .1 .0} ((c .before .before .before .before .before .before .before .before .before .before .before .before .before .before .before .before .before .before .before .before .before .before .before .before .before .module-shape) .ensures) ((c .before .before .before .before .before .before .before .before .before .before .before .before .before .before .before .before .before .before .before .before .before .before .before .read-tail) .ensures) in
+    module-put-as s _ (a .n) ((c .before .before .before .before .before .before .before .before .before .before .before .before .before .before .before .before .before .before .before .tail) .given .0 .0) (tail-of s _ _ _ (a .n .items) (tp .tail) ((c .before .before .before .before .before .before .before .before .before .before .before .before .before .before .before .before .before .before .before .tail) .given .0 .0) ((c .before .before .before .before .before .before .before .before .before .before .before .before .before .before .before .before .before .before .before .tail) .given .1)) ((c .before .before .before .before .before .before .before .before .before .before .before .before .before .before .before .before .before .before .before .before .before .before .before .before .before .before .before .before .pre) .0) ((c .before .before .before .before .before .before .before .before .before .before .before .before .before .before .before .before .before .before .before .before .before .before .before .before .before .before .before .before .pre) .1) (tp .behind) ((c .before .before .before .before .before .before .before .before .before .before .before .before .before .put-two) .ensures) ((c .before .before .before .before .before .before .before .put-two2) .ensures) ((c .before .before .put-two3) .ensures)
 
 pub read-module-spec : {M : Type 1} → statement M
 read-module-spec =
@@ -110,13 +114,14 @@ read-module-spec =
     mul-row
     add-row
     cast-put-two
+    cast-put-two-2
     put-two-requires
     add-put-two
-    cast-put-two-2
     cast-put-two-3
+    cast-put-two-4
     put-two-requires-2
     add-put-two-2
-    cast-put-two-4
+    cast-put-two-5
     put-two-requires-3
     same-length-2
     returns-2)

@@ -10,93 +10,84 @@ use Rattle.loader.proofs.values.slot_words.Tie as tie
 use Rattle.loader.proofs.values.slot_words.Reads as reads
 use Rattle.loader.proofs.values.slot_words.Lts as lts
 use Rattle.fields.proofs.read_slot.Reads as read-slot-reads
-use Rattle.loader.proofs.values.high_word.Reads as high-word-reads
 use Rattle.loader.proofs.values.is_link.Reads as is-link-reads
-use Rattle.loader.proofs.values.link_word.Reads as link-word-reads
-use Rattle.loader.proofs.values.low_word.Reads as low-word-reads
-use Rattle.loader.proofs.values.part_word.Reads as part-word-reads
+use Rattle.loader.proofs.values.name_words.Reads as name-words-reads
 
--- src/values.rt:77:26
+-- src/values.rt:56:26
 read-slot-requires : tie.Need-read-slot-requires
 read-slot-requires c κs = search needs
 
--- src/values.rt:77:18
+-- src/values.rt:56:18
 enum-known-v : tie.Need-enum-known-v
 enum-known-v c = search needs
 
--- src/values.rt:78:9
+-- src/values.rt:57:9
 enum-told : tie.Need-enum-told
 enum-told c = search needs
 
--- src/values.rt:78:9
+-- src/values.rt:57:9
 returns : tie.Need-returns
 returns c =
     let a = (c .before .before .before .before .args) in
     let s = a .file .now in
     sym (slot-lost s _ (a .kind) ((c .before .before .read-slot) .result) ((c .before .before .read-slot) .ensures) ((c .enum-told) .given .1))
 
--- src/values.rt:81:41
+-- src/values.rt:60:26
 enum-told-2 : tie.Need-enum-told-2
 enum-told-2 c = search needs
 
--- src/values.rt:82:23
+-- src/values.rt:61:23
 enum-known-v-2 : tie.Need-enum-known-v-2
 enum-known-v-2 c = search needs
 
--- src/values.rt:83:16
+-- src/values.rt:62:16
 is-link-requires : tie.Need-is-link-requires
 is-link-requires c κs = search needs
 
--- src/values.rt:84:52
-link-word-requires : tie.Need-link-word-requires
-link-word-requires c κs =
+-- src/values.rt:63:39
+add-t12 : tie.Need-add-t12
+add-t12 c =
     let a = (c .before .before .before .before .before .before .before .before .before .before .args) in
     let s = a .file .now in
-    link-bound (a .kind) _ (sym ((c .before .is-link) .ensures) ∙ (c .if1) .taken) (held-fits s _ (a .kind) ((c .before .before .before .before .before .before .before .before .read-slot) .result) ((c .before .before .before .before .before .before .before .before .read-slot) .ensures) ((c .before .before .before .before .before .before .v) .given .0 .0) ((c .before .before .before .before .before .before .v) .given .0 .1 .0) ((c .before .before .before .before .before .before .v) .given .1) ((c .before .before .before .v2) .given .1))
+    let low = link-bound (a .kind) _ (sym ((c .before .is-link) .ensures) ∙ (c .if1) .taken) (held-fits s _ (a .kind) ((c .before .before .before .before .before .before .before .before .read-slot) .result) ((c .before .before .before .before .before .before .before .before .read-slot) .ensures) ((c .before .before .before .before .before .before .v) .given .0 .0) ((c .before .before .before .before .before .before .v) .given .0 .1 .0) ((c .before .before .before .before .before .before .v) .given .1) ((c .before .before .before .v2) .given .1)) in
+    omega (arith, low)
 
--- src/values.rt:84:17
+-- src/values.rt:63:17
 returns-2 : tie.Need-returns-2
 returns-2 c =
-    let a = (c .before .before .before .before .before .before .before .before .before .before .before .args) in
+    let a = (c .before .before .before .before .before .before .before .before .before .before .args) in
     let s = a .file .now in
-    words-held s _ (a .kind) ((c .before .before .before .before .before .before .before .before .before .read-slot) .result) ((c .before .before .before .before .before .before .before .before .before .read-slot) .ensures) ((c .before .before .before .before .before .before .before .v) .given .0 .0) ((c .before .before .before .before .before .before .before .v) .given .0 .1 .0) ((c .before .before .before .before .before .before .before .v) .given .1) _ ((c .before .before .before .before .v2) .given .1) (link-held (a .kind) s _ _ (sym ((c .before .before .is-link) .ensures) ∙ (c .before .if1) .taken) ((c .link-word) .ensures))
+    let low = link-bound (a .kind) _ (sym ((c .before .is-link) .ensures) ∙ (c .if1) .taken) (held-fits s _ (a .kind) ((c .before .before .before .before .before .before .before .before .read-slot) .result) ((c .before .before .before .before .before .before .before .before .read-slot) .ensures) ((c .before .before .before .before .before .before .v) .given .0 .0) ((c .before .before .before .before .before .before .v) .given .0 .1 .0) ((c .before .before .before .before .before .before .v) .given .1) ((c .before .before .before .v2) .given .1)) in
+    words-held s _ (a .kind) ((c .before .before .before .before .before .before .before .before .read-slot) .result) ((c .before .before .before .before .before .before .before .before .read-slot) .ensures) ((c .before .before .before .before .before .before .v) .given .0 .0) ((c .before .before .before .before .before .before .v) .given .0 .1 .0) ((c .before .before .before .before .before .before .v) .given .1) _ ((c .before .before .before .v2) .given .1) (link-held (a .kind) s _ (sym ((c .before .is-link) .ensures) ∙ (c .if1) .taken) low)
 
--- src/values.rt:86:41
-low-word-requires : tie.Need-low-word-requires
-low-word-requires c κs = search needs
-
--- src/values.rt:86:60
-high-word-requires : tie.Need-high-word-requires
-high-word-requires c κs = search needs
-
--- src/values.rt:88:21
+-- src/values.rt:67:21
 enum-known-v-3 : tie.Need-enum-known-v-3
 enum-known-v-3 c = search needs
 
--- src/values.rt:88:58
-part-word-requires : tie.Need-part-word-requires
-part-word-requires c κs =
+-- src/values.rt:67:45
+name-words-requires : tie.Need-name-words-requires
+name-words-requires c κs =
     let a = (c .before .before .before .before .before .before .before .before .args) in
     let s = a .file .now in
     let n = text-named (a .kind) s _ _ (held-fits s _ (a .kind) ((c .before .before .before .before .before .before .read-slot) .result) ((c .before .before .before .before .before .before .read-slot) .ensures) ((c .before .before .before .before .v) .given .0 .0) ((c .before .before .before .before .v) .given .0 .1 .0) ((c .before .before .before .before .v) .given .1) ((c .before .v3) .given .1)) in
-    let short = c .before .before .before .before .before .before .before .before .pre in
+    let short = (c .before .before .before .before .before .before .before .before .pre) in
     (omega (arith, n .inside, short), omega (arith, n .most))
 
--- src/values.rt:73:1
+-- src/values.rt:52:1
 returns-3 : tie.Need-returns-3
 returns-3 c =
     let a = (c .before .before .before .before .before .before .before .args) in
     let s = a .file .now in
-    words-held s _ (a .kind) ((c .before .before .before .before .before .read-slot) .result) ((c .before .before .before .before .before .read-slot) .ensures) ((c .before .before .before .v) .given .0 .0) ((c .before .before .before .v) .given .0 .1 .0) ((c .before .before .before .v) .given .1) _ ((c .enum-told2) .given .1) (absent-held (a .kind) s (held-fits s _ (a .kind) ((c .before .before .before .before .before .read-slot) .result) ((c .before .before .before .before .before .read-slot) .ensures) ((c .before .before .before .v) .given .0 .0) ((c .before .before .before .v) .given .0 .1 .0) ((c .before .before .before .v) .given .1) ((c .enum-told2) .given .1)))
+    words-held s _ (a .kind) ((c .before .before .before .before .before .read-slot) .result) ((c .before .before .before .before .before .read-slot) .ensures) ((c .before .before .before .v) .given .0 .0) ((c .before .before .before .v) .given .0 .1 .0) ((c .before .before .before .v) .given .1) 0 ((c .enum-told2) .given .1) (absent-held (a .kind) s (held-fits s _ (a .kind) ((c .before .before .before .before .before .read-slot) .result) ((c .before .before .before .before .before .read-slot) .ensures) ((c .before .before .before .v) .given .0 .0) ((c .before .before .before .v) .given .0 .1 .0) ((c .before .before .before .v) .given .1) ((c .enum-told2) .given .1)))
 
--- src/values.rt:73:1
+-- src/values.rt:52:1
 returns-4 : tie.Need-returns-4
 returns-4 c =
-    let a = (c .before .before .before .before .before .before .before .before .before .before .before .before .args) in
+    let a = (c .before .before .before .before .before .before .before .before .before .before .args) in
     let s = a .file .now in
-    words-held s _ (a .kind) ((c .before .before .before .before .before .before .before .before .before .before .read-slot) .result) ((c .before .before .before .before .before .before .before .before .before .before .read-slot) .ensures) ((c .before .before .before .before .before .before .before .before .v) .given .0 .0) ((c .before .before .before .before .before .before .before .before .v) .given .0 .1 .0) ((c .before .before .before .before .before .before .before .before .v) .given .1) _ ((c .before .before .before .before .before .v2) .given .1) (number-held s _ _ _ ((c .before .low-word) .ensures) ((c .high-word) .ensures) (a .kind) (sym ((c .before .before .before .is-link) .ensures) ∙ (c .before .before .if1) .left) (held-fits s _ (a .kind) ((c .before .before .before .before .before .before .before .before .before .before .read-slot) .result) ((c .before .before .before .before .before .before .before .before .before .before .read-slot) .ensures) ((c .before .before .before .before .before .before .before .before .v) .given .0 .0) ((c .before .before .before .before .before .before .before .before .v) .given .0 .1 .0) ((c .before .before .before .before .before .before .before .before .v) .given .1) ((c .before .before .before .before .before .v2) .given .1)))
+    words-held s _ (a .kind) ((c .before .before .before .before .before .before .before .before .read-slot) .result) ((c .before .before .before .before .before .before .before .before .read-slot) .ensures) ((c .before .before .before .before .before .before .v) .given .0 .0) ((c .before .before .before .before .before .before .v) .given .0 .1 .0) ((c .before .before .before .before .before .before .v) .given .1) _ ((c .before .before .before .v2) .given .1) (number-held s _ (a .kind) (sym ((c .before .is-link) .ensures) ∙ (c .if1) .left) (held-fits s _ (a .kind) ((c .before .before .before .before .before .before .before .before .read-slot) .result) ((c .before .before .before .before .before .before .before .before .read-slot) .ensures) ((c .before .before .before .before .before .before .v) .given .0 .0) ((c .before .before .before .before .before .before .v) .given .0 .1 .0) ((c .before .before .before .before .before .before .v) .given .1) ((c .before .before .before .v2) .given .1)))
 
--- src/values.rt:73:1
+-- src/values.rt:52:1
 returns-5 : tie.Need-returns-5
 returns-5 c =
     let a = (c .before .before .before .before .before .before .before .before .before .args) in
@@ -104,7 +95,7 @@ returns-5 c =
     let fits = held-fits s _ (a .kind) ((c .before .before .before .before .before .before .before .read-slot) .result) ((c .before .before .before .before .before .before .before .read-slot) .ensures) ((c .before .before .before .before .before .v) .given .0 .0) ((c .before .before .before .before .before .v) .given .0 .1 .0) ((c .before .before .before .before .before .v) .given .1) ((c .before .before .v3) .given .1) in
     let n = text-named (a .kind) s _ _ fits in
     let short = (c .before .before .before .before .before .before .before .before .before .pre) in
-    words-held s _ (a .kind) ((c .before .before .before .before .before .before .before .read-slot) .result) ((c .before .before .before .before .before .before .before .read-slot) .ensures) ((c .before .before .before .before .before .v) .given .0 .0) ((c .before .before .before .before .before .v) .given .0 .1 .0) ((c .before .before .before .before .before .v) .given .1) _ ((c .before .before .v3) .given .1) (text-held s _ _ _ (omega (arith, n .inside, short)) ((c .part-word) .ensures) (a .kind) (n .least) fits)
+    words-held s _ (a .kind) ((c .before .before .before .before .before .before .before .read-slot) .result) ((c .before .before .before .before .before .before .before .read-slot) .ensures) ((c .before .before .before .before .before .v) .given .0 .0) ((c .before .before .before .before .before .v) .given .0 .1 .0) ((c .before .before .before .before .before .v) .given .1) _ ((c .before .before .v3) .given .1) (text-held s _ _ _ (omega (arith, n .inside, short)) (n .most) ((c .name-words) .ensures) (a .kind) (n .least) fits)
 
 pub slot-words-spec : {M : Type 1} → statement M
 slot-words-spec =
@@ -117,12 +108,10 @@ slot-words-spec =
     enum-told-2
     enum-known-v-2
     is-link-requires
-    link-word-requires
+    add-t12
     returns-2
-    low-word-requires
-    high-word-requires
     enum-known-v-3
-    part-word-requires
+    name-words-requires
     returns-3
     returns-4
     returns-5)

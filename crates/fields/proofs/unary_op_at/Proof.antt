@@ -1,0 +1,28 @@
+-- `fields::unary_op_at` meets its contract: the map is right for the table. Assumes nothing.
+use mathlib.Core.Path.{refl}
+use lib.ListN.{drop}
+use Rattle.model.specs.Common.{eq-numbers}
+use Rattle.words.proofs.Tables.{maps-from}
+use Rattle.fields.proofs.Slots.{unary-op-is}
+use borrow.Author.Needs.{needs}
+use Rattle.fields.proofs.unary_op_at.Statement.{statement}
+use Rattle.fields.proofs.unary_op_at.Tie as tie
+use Rattle.fields.proofs.unary_op_at.Reads as reads
+use Rattle.fields.proofs.unary_op_at.Lts as lts
+use Rattle.fields.proofs.operator_at.Reads as operator-at-reads
+
+-- src/lib.rt:206:9
+slice-aggregate-operator-at : tie.Need-slice-aggregate-operator-at
+slice-aggregate-operator-at c = search needs
+
+-- src/lib.rt:203:5
+operator-at-requires : tie.Need-operator-at-requires
+operator-at-requires c κs = search needs
+
+-- src/lib.rt:199:1
+returns : tie.Need-returns
+unfolding maps-from eq-numbers
+returns c = unary-op-is (drop ((c .before .before .before .before .args) .from) ((c .before .before .before .before .args) .file .now)) _ _ _ ((c .operator-at) .ensures) refl
+
+pub unary-op-at-spec : {M : Type 1} → statement M
+unary-op-at-spec = tie.close (tie.spec slice-aggregate-operator-at operator-at-requires returns)
