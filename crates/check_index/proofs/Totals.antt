@@ -1,19 +1,22 @@
 -- How many records the words hold, and how many the index that they hold has. Assumes nothing.
 use Prim.Native.Nat.{ℕ, zero, suc, _+_, _-_, _*_, _≤_, _<_}
-use mathlib.Core.Path.{_≡_, refl, sym, ap, ap₂, _∙_}
+use mathlib.Core.Path.{_≡_, refl, sym, ap, ap₂, subst, _∙_}
 use mathlib.Core.List.{List, [], _∷_, _++_}
 use native.Mathlib.Omega.{arith}
 use native.Mathlib.Nat.{zero-add}
-use lib.ListN.{length}
+use lib.ListN.{length, take}
+use lib.Seq.{take-all}
 use Rattle.model.specs.Common.{bytes, total}
 use Rattle.model.specs.Records.{Index}
-use Rattle.model.specs.Limits.{scope-count, type-expr-count, definition-count, expression-count, item-count}
-use Rattle.format.specs.Load.{accepted}
+use Rattle.model.specs.Limits.{scope-count, type-expr-count, definition-count, expression-count, item-count, record-words}
+use Rattle.format.specs.Load.{accepted, load}
 use Rattle.records.specs.Layout.{word, each, rows-of, count-of, begin-of, module-row, index-of, module-count, question-count}
 use Rattle.records.specs.Layout.{scope-row, type-expr-row, definition-row, expression-row, question-row}
 use Rattle.records.specs.Layout.{scope-rows, type-expr-rows, definition-rows, expression-rows}
 use Rattle.records.proofs.Lists.{each-length, each-unroll, each-ended, each-begun}
-use Rattle.check_index.specs.Line.{counted, counts, row-total, accepted-line, index-counts, loading-line}
+use Rattle.check_index.specs.Line.{counted, counts, row-total, accepted-line, index-counts, line-of, loading-line}
+use Rattle.loader.specs.Load.{loaded-is, ItemsCounted, Filled}
+use Rattle.loader.specs.declared.Loaded.{Loaded}
 
 -- ------------------------------------------------------------------ the sum, from module to module
 
@@ -120,3 +123,15 @@ pub accepted-line-is :
 accepted-line-is file words index e i =
     ap (λ (ns : List ℕ). counted (bytes "accepted") ns ++ bytes "\n")
     (counts-of-index file words ∙ ap₂ index-counts e i)
+
+-- a buffer of just the record words
+pub line-is : (file before words : List ℕ) (loaded : Loaded) → length words ≡ record-words → Filled file before words loaded → line-of loaded words ≡ loading-line (load file)
+line-is file before words loaded long filled =
+    of loaded (subst (λ w. loaded-is file w loaded ≡ load file) all (filled .is)) (subst (λ w. ItemsCounted file w loaded) all (filled .items))
+  where
+    all : take record-words words ≡ words
+    all = take-all record-words words (omega (arith, long))
+
+    of : (r : Loaded) → loaded-is file words r ≡ load file → ItemsCounted file words r → line-of r words ≡ loading-line (load file)
+    of Loaded.Accepted e items = accepted-line-is file words (index-of file words) refl items ∙ ap loading-line e
+    of (Loaded.Refused number line) e items = ap loading-line e

@@ -6,7 +6,8 @@ ghost use Prim.Native.Nat.{_+_, _≤_};
 ghost use mathlib.Core.List.{[], _∷_, _++_};
 ghost use lib.ListN.{length, take};
 ghost use Rattle.io.specs.Counts.{Counts};
-ghost use Rattle.check_index.specs.Line.{counted, counts, row-total, accepted-line, refused-line, line-of};
+ghost use Rattle.check_index.specs.Line.{counted, counts, row-total, accepted-line, refused-line, line-of, loading-line};
+ghost use Rattle.format.specs.Load.{load};
 ghost use Rattle.records.specs.Layout.{word as word-of};
 
 // The word of the header that says how many items there are.
@@ -149,12 +150,21 @@ fn put_line(loaded: Loaded, words: &[u32], out: &mut [u8]) -> usize
     }
 }
 
+// The line that the definition of loading sets out for a file; and how long it is.
+fn check_file(file: &[u8], words: &mut [u32], out: &mut [u8]) -> usize
+    requires { ⌜ (16384 ≡ length (now words)) × (192 ≤ length (now out)) ⌝ }
+    ensures fits { λ r. ⌜ Counts r (now (out .exit)) ⌝ }
+    ensures is { λ r. ⌜ take r (now (out .exit)) ≡ loading-line (load (now (file .entry))) ⌝ }
+{
+    let loaded = loader::load(file, words);
+    put_line(loaded, words, out)
+}
+
 fn main() {
     let mut space = input();
     let n = io::read_full(0, &mut space);
     let mut words = record_words();
-    let loaded = loader::load(&space[..n], &mut words);
     let mut out = io::buffer();
-    let length = put_line(loaded, &words, &mut out);
+    let length = check_file(&space[..n], &mut words, &mut out);
     io::write_all(1, &out[..length]);
 }

@@ -14,11 +14,13 @@ ghost use Rattle.model.specs.Lookups.{resolve-name-at-position, definition-for-
 ghost use Rattle.records.specs.Layout.{bytes-at, module-row, index-of};
 ghost use Rattle.records.specs.Meaning.{definition-link-of};
 ghost use Rattle.semantic_index.specs.Meaning.{module-link-of};
-ghost use Rattle.export.specs.Numbers.{link-number};
+ghost use Rattle.export.specs.Numbers.{link-number, Exported};
 
 // 0 for an accepted file, else 2^32 times the refusal's number and its line.
 #[no_mangle]
-pub extern "C" fn roognaps_load(file: &[u8], records: &mut [u32]) -> u64 {
+pub extern "C" fn roognaps_load(file: &[u8], records: &mut [u32]) -> u64
+    ensures { λ r. ⌜ Exported (now (file .entry)) (now (records .entry)) (now (records .exit)) r ⌝ }
+{
     match loader::load(file, records) {
         Loaded::Accepted => 0,
         Loaded::Refused(number, line) => (number as u64) * 4294967296 + (line as u64),
