@@ -16,7 +16,8 @@ ghost use Rattle.records.specs.Meaning.{definition-link-of};
 ghost use Rattle.semantic_index.specs.Meaning.{module-link-of};
 ghost use Rattle.export.specs.Numbers.{link-number, Exported};
 
-// 0 for an accepted file, else 2^32 times the refusal's number and its line.
+// 0 for an accepted file, else 2^32 times the refusal's number, plus its line. The words of the index are the first 16,384 of the buffer: these are
+// what the lookups are given.
 #[no_mangle]
 pub extern "C" fn roognaps_load(file: &[u8], records: &mut [u32]) -> u64
     ensures { λ r. ⌜ Exported (now (file .entry)) (now (records .entry)) (now (records .exit)) r ⌝ }

@@ -15,7 +15,6 @@ use Rattle.words.specs.declared.Found.{Found}
 use Rattle.words.specs.Packed.{candidate-place, found-is}
 use Rattle.words.proofs.Bytes.{here}
 use Rattle.words.proofs.Tables.{maps, candidate-first}
-use Rattle.format.specs.Tails.{three}
 use Rattle.format.specs.Lines.{word-here}
 use Rattle.fields.specs.declared.Value as held
 use Rattle.fields.specs.declared.Slot.{Slot}

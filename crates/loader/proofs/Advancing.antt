@@ -1,29 +1,25 @@
 -- One line more: the counts, the names so far, the index so far. Assumes nothing.
 use Prim.Native.Nat.{ℕ, zero, suc, _+_, _-_, _*_, _≤_, _<_}
-use mathlib.Core.Path.{_≡_, refl, sym, ap, ap₂, subst, _∙_}
-use mathlib.Core.Logic.{_⊎_, inl, inr, ⊎-elim}
+use mathlib.Core.Path.{_≡_, refl, sym, ap, ap₂, _∙_}
 use mathlib.Core.List.{List, [], _∷_, _++_}
 use mathlib.Core.Bool.{Bool, true, false, not, _&&_, false≢true}
 use mathlib.Core.Option.{Option, none, some}
-use native.Mathlib.Nat.{zero-add, not-suc-le-zero}
+use native.Mathlib.Nat.{zero-add}
 use native.Mathlib.Omega.{arith}
-use lib.Dec.{eqb, ltb}
-use lib.ListN.{length, length-append}
+use lib.Dec.{eqb}
 use borrow.Author.Tests.{eq-eqb, ne-eqb}
-use Rattle.model.specs.Common.{Text, if_then_else_, let-some, first, next, is-none, eq-numbers, total}
-use Rattle.model.specs.Limits.{scope-count, type-expr-count, definition-count, expression-count, item-count, type-expr-items, definition-items, expression-items, module-items}
+use Rattle.model.specs.Common.{Text, if_then_else_, first, next, is-none, eq-numbers, total}
 use Rattle.model.specs.Records.{Name, Scope, TypeExpr, Definition, ExpressionInfo, Module, Index}
 use Rattle.model.proofs.Tests.{eqb-sound}
 use Rattle.model.specs.Lookups.{module-named, module-by-name}
 use Rattle.format.specs.declared.LineWord.{LineWord}
-use Rattle.format.specs.Lines.{Entry, entry-items, line-from, a-module, a-scope, a-type, a-definition, an-expression, a-question}
-use Rattle.format.specs.FirstPass.{empty-module, with-scope, with-type, with-definition, with-expression, on-last, add, has-line-room, stage-of, in-place, is-again}
-use Rattle.records.specs.Layout.{each, word, module-place, name-by, scope-row, type-expr-row, definition-row, expression-row, question-row, scope-rows, type-expr-rows, definition-rows, expression-rows, begin-of, end-of}
-use Rattle.records.proofs.Lists.{each-same, each-snoc, each-length, each-unroll, each-ended, each-begun}
-use Rattle.loader.specs.State.{end-so-far, rows-so-far, module-by, module-so-far, index-so-far, row-entry, BeginsAt, Begins, Left, Fine, HasRoom, counts-after, has-room}
-use Rattle.loader.specs.Steps.{name-at, again, is-module, Counted, BeginsWithin, Good}
+use Rattle.format.specs.Lines.{line-from, a-module}
+use Rattle.format.specs.FirstPass.{empty-module, with-scope, with-type, with-definition, with-expression, on-last, add, stage-of, is-again}
+use Rattle.records.specs.Layout.{each, word, scope-row, type-expr-row, definition-row, expression-row, question-row, scope-rows, type-expr-rows, definition-rows, expression-rows, begin-of, end-of}
+use Rattle.records.proofs.Lists.{each-same, each-snoc, each-unroll, each-ended, each-begun}
+use Rattle.loader.specs.State.{rows-so-far, module-by, module-so-far, index-so-far, row-entry, BeginsAt, counts-after}
+use Rattle.loader.specs.Steps.{name-at, again, BeginsWithin}
 use Rattle.loader.specs.declared.rows.Counts.{Counts}
-use Rattle.loader.proofs.Leaving.{left-then, left-fewer, fewer-after}
 
 pub and-true : (b : Bool) → (b && true) ≡ b
 and-true true = refl

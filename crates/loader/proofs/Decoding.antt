@@ -1,5 +1,5 @@
 -- The record that a word and the words behind it stand for is the one that the row's words hold: document 01's tables. Assumes nothing.
-use Prim.Native.Nat.{ℕ, zero, suc, _+_, _*_, _≤_, _<_}
+use Prim.Native.Nat.{ℕ, zero, suc, _+_, _*_, _≤_}
 use mathlib.Core.Path.{_≡_, refl, sym, ap, ap₂, _∙_}
 use mathlib.Core.List.{List, [], _∷_, map}
 use mathlib.Core.Bool.{Bool, true, false, not, false≢true}
@@ -10,7 +10,7 @@ use borrow.Author.Tests.{ne-eqb}
 use lib.ListN.{length, length-map}
 use Rattle.model.specs.Common.{Text}
 use Rattle.model.specs.Limits.{max-items, type-expr-items, kind-items, node-items}
-use Rattle.model.specs.Records.{Scope, ScopeKind, TypeExpr, NameWithType, DefinitionKind, Origin, UnaryOp, BinaryOp, Expression, Question}
+use Rattle.model.specs.Records.{TypeExpr, DefinitionKind, Expression, Question}
 use Rattle.format.specs.declared.Kind.{Kind}
 use Rattle.format.specs.declared.Listed.{Listed}
 use Rattle.format.specs.declared.Shape.{Shape}
@@ -21,7 +21,7 @@ use Rattle.format.specs.declared.OriginWord.{OriginWord}
 use Rattle.format.specs.declared.NodeWord.{NodeWord}
 use Rattle.format.specs.declared.QuestionWord.{QuestionWord}
 use Rattle.format.specs.Words.{word-at, unary-op-at, binary-op-at}
-use Rattle.format.specs.Fields.{Value, only-if}
+use Rattle.format.specs.Fields.{only-if}
 use Rattle.format.specs.Tails as tails
 use Rattle.format.specs.Shapes.{
   num,
@@ -43,30 +43,7 @@ use Rattle.format.specs.Shapes.{
   question-shape,
   question-as,
 }
-use Rattle.records.specs.Layout.{
-  each,
-  link-by,
-  name-by,
-  suffix-by,
-  start-of,
-  length-of,
-  size-by,
-  option-at,
-  item-value,
-  item-name,
-  numbers-at,
-  links-at,
-  name-with-type-row,
-  names-with-types-at,
-  scope-kind-by,
-  type-expr-by,
-  definition-kind-by,
-  origin-by,
-  unary-op-by,
-  binary-op-by,
-  expression-by,
-  question-by,
-}
+use Rattle.records.specs.Layout.{each, link-by, name-by, suffix-by, start-of, length-of, size-by, option-at, item-value, numbers-at, links-at, names-with-types-at, scope-kind-by, type-expr-by, definition-kind-by, origin-by, unary-op-by, binary-op-by, expression-by, question-by}
 use Rattle.records.proofs.Lists.{each-same}
 use Rattle.records.proofs.Packing.{start-packed, length-packed}
 use Rattle.records.proofs.Stores.{Listed as WithinItems, ListedNode}

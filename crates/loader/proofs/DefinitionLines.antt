@@ -1,11 +1,11 @@
 -- D: the line that was read is the row that was written. Assumes nothing.
-use Prim.Native.Nat.{ℕ, _+_, _*_, _≤_, _<_}
-use mathlib.Core.Path.{_≡_, refl, sym, ap, subst, _∙_}
+use Prim.Native.Nat.{ℕ, _+_, _≤_}
+use mathlib.Core.Path.{_≡_, sym, ap, subst, _∙_}
 use mathlib.Core.List.{List, [], _∷_}
 use mathlib.Core.Bool.{true, false}
 use mathlib.Core.Option.{Option, none, some}
 use native.Mathlib.Omega.{arith}
-use lib.ListN.{length, drop}
+use lib.ListN.{drop}
 use Rattle.model.specs.Common.{Text, let-some}
 use Rattle.model.specs.Limits.{max-items, kind-items}
 use Rattle.model.specs.Records.{DefinitionKind, Definition}
@@ -16,13 +16,13 @@ use Rattle.format.specs.Words.{definition-word-of}
 use Rattle.format.specs.Tails as tails
 use Rattle.format.specs.Shapes.{definition-shape, definition-as}
 use Rattle.format.specs.Lines.{a-definition, entry-items, definition-from, word-here, definition-line, line-from}
-use Rattle.records.specs.Layout.{word, name-by, definition-place, item-place, definition-kind-by, definition-row, definition-word}
-use Rattle.records.specs.Promises.{Put, Same}
+use Rattle.records.specs.Layout.{word, definition-place, item-place, definition-kind-by, definition-row, definition-word}
+use Rattle.records.specs.Promises.{Put}
 use Rattle.records.proofs.Stores.{put-append, definition-put, definition-row-same, same-above, Listed}
 use Rattle.loader.specs.Items.{Behind}
 use Rattle.loader.specs.Numbers.{definition-number}
 use Rattle.loader.specs.Values.{Words, parts, value-by}
-use Rattle.loader.specs.State.{row-entry, Left, Fine, HasRoom}
+use Rattle.loader.specs.State.{row-entry, Fine, HasRoom}
 use Rattle.loader.specs.Lines.{tail-by, TailHeld, path-fits, LinePut}
 use Rattle.loader.specs.declared.rows.Counts.{Counts}
 use Rattle.loader.specs.declared.rows.Tail.{Tail}

@@ -1,10 +1,10 @@
 -- E: the line that was read is the row that was written. Assumes nothing.
-use Prim.Native.Nat.{ℕ, _+_, _*_, _/_, _%_, _≤_, _<_}
+use Prim.Native.Nat.{ℕ, _+_, _*_, _%_, _≤_, _<_}
 use mathlib.Core.Path.{_≡_, refl, sym, ap, subst, _∙_}
 use mathlib.Core.List.{List, [], _∷_}
 use mathlib.Core.Option.{Option, none, some}
 use native.Mathlib.Omega.{arith}
-use lib.ListN.{length, drop}
+use lib.ListN.{drop}
 use Rattle.model.specs.Common.{Text, let-some}
 use Rattle.model.specs.Limits.{max-items, node-items}
 use Rattle.model.specs.Records.{Origin, Expression, ExpressionInfo}
@@ -17,9 +17,9 @@ use Rattle.format.specs.Tails as tails
 use Rattle.format.specs.Shapes.{origin-shape, origin-as, node-shape, node-as}
 use Rattle.format.specs.Lines.{Line, an-expression, entry-items, expression-from, WordRead, word-here, expression-line, line-from}
 use Rattle.records.specs.Layout.{word, link-by, expression-place, item-place, origin-by, expression-by, expression-row, expression-word}
-use Rattle.records.specs.Promises.{Put, Same}
+use Rattle.records.specs.Promises.{Put}
 use Rattle.records.proofs.Packing.{node-packed, origin-packed}
-use Rattle.records.proofs.Stores.{put-append, put-more, expression-put, expression-row-same, same-above, ListedNode}
+use Rattle.records.proofs.Stores.{put-append, expression-put, expression-row-same, same-above, ListedNode}
 use Rattle.loader.specs.Items.{Behind}
 use Rattle.loader.specs.Numbers.{origin-number, node-number}
 use Rattle.loader.specs.Values.{Words, parts, value-by}

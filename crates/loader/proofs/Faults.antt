@@ -1,16 +1,16 @@
 -- The first line whose links don't lead: module after module, and then the questions. Assumes nothing.
-use Prim.Native.Nat.{ℕ, zero, suc, _+_, _-_, _≤_, _<_}
-use mathlib.Core.Path.{_≡_, refl, sym, ap, ap₂, _∙_}
-use mathlib.Core.List.{List, [], _∷_, _++_, map, append-assoc}
+use Prim.Native.Nat.{ℕ, _+_, _-_, _≤_, _<_}
+use mathlib.Core.Path.{_≡_, sym, ap, _∙_}
+use mathlib.Core.List.{List, _++_, map, append-assoc}
 use mathlib.Core.Bool.{Bool, not}
 use mathlib.Core.Option.{Option, none, some}
 use native.Mathlib.Nat.{zero-add}
 use native.Mathlib.Omega.{arith}
 use lib.ListN.{length, length-map}
 use Rattle.model.specs.Common.{let-some, first}
-use Rattle.model.specs.Records.{Module, Index}
+use Rattle.model.specs.Records.{Index}
 use Rattle.format.specs.LinkCheck.{question-linked, module-lines, modules-lines, linked-lines, link-fault}
-use Rattle.records.specs.Layout.{word, each, module-count, question-count, question-row, module-row, index-of}
+use Rattle.records.specs.Layout.{each, module-count, question-count, question-row, module-row, index-of}
 use Rattle.records.proofs.Lists.{each-unroll, each-ended, each-begun, each-length}
 use Rattle.links.specs.declared.Fault.{Fault}
 use Rattle.links.specs.Meaning.{fault-of}

@@ -1,27 +1,26 @@
 -- All lines one after the other, and the words that end the index. Assumes nothing.
-use Prim.Native.Nat.{ℕ, zero, suc, _+_, _-_, _*_, _≤_, _<_}
+use Prim.Native.Nat.{ℕ, suc, _+_, _-_, _*_, _≤_, _<_}
 use mathlib.Core.Path.{_≡_, refl, sym, ap, ap₂, subst, _∙_}
-use mathlib.Core.Logic.{inl, inr}
-use mathlib.Core.List.{List, [], _∷_, _++_, map}
+use mathlib.Core.Logic.{inl}
+use mathlib.Core.List.{List, [], _∷_, map}
 use mathlib.Core.Bool.{Bool, true, false}
-use native.Mathlib.Nat.{add-zero, not-suc-le-zero}
+use native.Mathlib.Nat.{not-suc-le-zero}
 use native.Mathlib.Omega.{arith}
 use lib.Dec.{eqb}
-use lib.ListN.{length, drop, getD, length-append, length-map, drop-of-length-le}
+use lib.ListN.{length, drop, length-append, length-map, drop-of-length-le}
 use Rattle.model.specs.Common.{Text, if_then_else_, is-empty, total}
 use Rattle.model.specs.Limits.{scope-count, type-expr-count, definition-count, expression-count, item-count}
 use Rattle.model.specs.Records.{Module, Index}
 use Rattle.model.proofs.Tests.{eqb-sound}
-use Rattle.format.specs.declared.LineWord.{LineWord}
-use Rattle.format.specs.FirstPass.{Seen, Step, refuse, go, step-on, First, read, wrong, lines-within, first-pass}
+use Rattle.format.specs.FirstPass.{Seen, refuse, go, step-on, First, read, wrong, lines-within, first-pass}
 use Rattle.format.specs.LinkCheck.{question-linked, module-lines, modules-lines, linked-lines}
 use Rattle.format.proofs.Enough.{step-shorter, lines-enough}
 use Rattle.words.proofs.Bytes.{here}
 use Rattle.records.specs.Layout.{word, each, module-place, scope-row, type-expr-row, definition-row, expression-row, question-row, scope-rows, type-expr-rows, definition-rows, expression-rows, begin-of, end-of, rows-of, module-row, index-of}
 use Rattle.records.specs.Promises.{Put}
 use Rattle.records.proofs.Lists.{each-same}
-use Rattle.loader.specs.State.{rows-so-far, module-by, module-so-far, index-so-far, seen-as, BeginsAt, Left, Fine}
-use Rattle.loader.specs.Steps.{name-at, Counted, Good}
+use Rattle.loader.specs.State.{rows-so-far, module-by, module-so-far, index-so-far, seen-as, Fine}
+use Rattle.loader.specs.Steps.{name-at, Good}
 use Rattle.loader.specs.Pass.{Finished, AllRead}
 use Rattle.loader.specs.declared.rows.Counts.{Counts}
 use Rattle.loader.proofs.Leaving.{left-then, put-left, Apart}

@@ -1,12 +1,12 @@
 -- A field's value and the words that it takes: what a field of a kind can hold, and that its words hold just that. Assumes nothing.
-use Prim.Native.Nat.{ℕ, zero, suc, _+_, _*_, _/_, _%_, _≤_, _<_}
+use Prim.Native.Nat.{ℕ, zero, suc, _+_, _*_, _%_, _≤_, _<_}
 use mathlib.Core.Path.{_≡_, refl, sym, ap, subst, _∙_}
 use mathlib.Core.List.{List, [], _∷_}
 use mathlib.Core.Bool.{Bool, true, false, _&&_, not, false≢true}
 use mathlib.Core.Option.{Option, none, some}
 use native.Mathlib.Omega.{arith}
 use lib.Dec.{leb}
-use lib.ListN.{length, drop, getD}
+use lib.ListN.{length, drop}
 use Rattle.model.specs.Common.{Text, let-some, if_then_else_, first, next}
 use Rattle.model.specs.Limits.{max-number, max-position, max-size}
 use Rattle.model.proofs.Tests.{leb-le, and-left, and-right}
@@ -22,7 +22,7 @@ use Rattle.fields.specs.declared.Slot.{Slot}
 use Rattle.fields.specs.Held.{value-is, slot-is}
 use Rattle.fields.proofs.Slots.{slot-found}
 use Rattle.loader.specs.declared.values.SlotWords.{SlotWords}
-use Rattle.loader.specs.Values.{Words, parts, linked, named, value-by, is-link, slot-words-is}
+use Rattle.loader.specs.Values.{parts, linked, named, value-by, is-link, slot-words-is}
 
 -- ------------------------------------------------------------------ what a field of a kind can hold
 

@@ -1,22 +1,21 @@
 -- What holds before each line holds behind it. Assumes nothing.
-use Prim.Native.Nat.{ℕ, zero, suc, _+_, _*_, _≤_, _<_}
+use Prim.Native.Nat.{ℕ, zero, suc, _+_, _≤_, _<_}
 use mathlib.Core.Path.{_≡_, refl, sym, ap, ap₂, subst, _∙_}
 use mathlib.Core.List.{List, [], _∷_, _++_}
-use mathlib.Core.Bool.{Bool, true, false, not, _&&_, false≢true}
-use mathlib.Core.Option.{Option, none, some}
+use mathlib.Core.Bool.{true, false, _&&_, false≢true}
+use mathlib.Core.Option.{none}
 use native.Mathlib.Nat.{not-suc-le-zero}
 use native.Mathlib.Omega.{arith}
 use lib.Dec.{leb, ltb}
 use lib.ListN.{length, length-append}
-use borrow.Author.Tests.{lt-leb}
 use Rattle.model.specs.Common.{Text, total}
 use Rattle.model.specs.Limits.{max-items, scope-count, type-expr-count, definition-count, expression-count, item-count, type-expr-items, definition-items, expression-items, module-items}
 use Rattle.model.specs.Records.{Name, Scope, TypeExpr, Definition, ExpressionInfo, Module, Question, Index}
 use Rattle.model.proofs.Tests.{leb-le, ltb-lt, and-left, and-right}
 use Rattle.format.specs.declared.LineWord.{LineWord}
-use Rattle.format.specs.Lines.{Entry, entry-items, a-module, a-scope, a-type, a-definition, an-expression, a-question}
-use Rattle.format.specs.FirstPass.{empty-module, with-scope, with-type, with-definition, with-expression, on-last, add, has-line-room, stage-of, in-place}
-use Rattle.records.specs.Layout.{each, word, module-place, question-row, begin-of, scope-rows, type-expr-rows, definition-rows, expression-rows}
+use Rattle.format.specs.Lines.{entry-items, a-module, a-scope, a-type, a-definition, an-expression, a-question}
+use Rattle.format.specs.FirstPass.{empty-module, with-scope, with-type, with-definition, with-expression, on-last, add, has-line-room, in-place}
+use Rattle.records.specs.Layout.{module-place, question-row, begin-of, scope-rows, type-expr-rows, definition-rows, expression-rows}
 use Rattle.records.specs.Promises.{Same}
 use Rattle.records.proofs.Lists.{each-length}
 use Rattle.loader.specs.State.{module-so-far, index-so-far, row-entry, BeginsAt, Begins, Left, Fine, HasRoom, counts-after, has-room}

@@ -1,6 +1,6 @@
 -- What a store leaves: the rows that are counted. Assumes nothing.
-use Prim.Native.Nat.{ℕ, _+_, _*_, _≤_, _<_}
-use mathlib.Core.Path.{_≡_, refl, sym, ap, subst, _∙_}
+use Prim.Native.Nat.{ℕ, _+_, _≤_, _<_}
+use mathlib.Core.Path.{_≡_, refl, sym, subst, _∙_}
 use mathlib.Core.Logic.{_⊎_, inl, inr, ⊎-elim}
 use mathlib.Core.List.{List, [], _∷_}
 use native.Mathlib.Nat.{add-zero}
@@ -8,7 +8,7 @@ use native.Mathlib.Omega.{arith}
 use lib.ListN.{length, set}
 use Rattle.format.specs.declared.LineWord.{LineWord}
 use Rattle.records.specs.Layout.{word, module-place, scope-place, type-expr-place, definition-place, expression-place, question-place, item-place}
-use Rattle.records.specs.Promises.{Put, Same}
+use Rattle.records.specs.Promises.{Put}
 use Rattle.records.proofs.Stores.{put-nothing, put-more, lt-or-ge}
 use Rattle.loader.specs.Items.{Behind}
 use Rattle.loader.specs.State.{Left, Fine, HasRoom, counts-after}

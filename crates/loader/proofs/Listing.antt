@@ -1,26 +1,24 @@
 -- Lists: one item after the other, and their rows. Assumes nothing.
-use Prim.Native.Nat.{ℕ, zero, suc, _+_, _*_, _-_, _≤_, _<_}
-use mathlib.Core.Path.{_≡_, refl, sym, ap, subst, _∙_}
+use Prim.Native.Nat.{ℕ, suc, _+_, _*_, _-_, _≤_, _<_}
+use mathlib.Core.Path.{_≡_, refl, sym, ap, _∙_}
 use mathlib.Core.List.{List, [], _∷_, _++_, append-assoc, append-nil}
-use mathlib.Core.Bool.{Bool, true, false, not, false≢true}
+use mathlib.Core.Bool.{true, false, not, false≢true}
 use mathlib.Core.Option.{Option, none, some}
 use native.Mathlib.Omega.{arith}
 use lib.Dec.{eqb}
-use lib.ListN.{length, drop, set, getD, length-append, length-drop, length-set, drop-of-length-le}
+use lib.ListN.{length, drop, set, getD, length-append, length-set, drop-of-length-le}
 use lib.Seq.{getD-set-same, getD-set-other}
-use borrow.Author.Tests.{eq-eqb, ne-eqb}
 use Rattle.model.specs.Common.{Text, let-some}
 use Rattle.model.specs.Limits.{max-items}
-use Rattle.format.specs.declared.Kind.{Kind}
 use Rattle.format.specs.declared.Listed.{Listed}
-use Rattle.format.specs.Fields.{Value, Read, slot}
+use Rattle.format.specs.Fields.{Read, slot}
 use Rattle.format.specs.Tails.{Item, Items, first-kind, second-kind, at-end, no-items, with-item, items-within, is-empty-list, items}
-use Rattle.format.proofs.Reading.{Every, every-some, every-then, nothing, this}
+use Rattle.format.proofs.Reading.{Every, every-some, every-then, this}
 use Rattle.format.proofs.Enough.{items-enough, first-shorter, slot-shorter}
 use Rattle.words.proofs.Bytes.{here}
-use Rattle.records.specs.Layout.{word, each, item-place, item-value, item-name}
-use Rattle.records.proofs.Lists.{each-same, each-snoc, each-length}
-use Rattle.loader.specs.Values.{Words, parts, value-by}
+use Rattle.records.specs.Layout.{each, item-place}
+use Rattle.records.proofs.Lists.{each-same, each-snoc}
+use Rattle.loader.specs.Values.{Words, value-by}
 use Rattle.loader.specs.Items.{ItemHere, item-here, is-named, first-word, one-word, item-by, item-row, items-by, Behind, ItemPut, ItemsHeld}
 
 -- ------------------------------------------------------------------ the end of a list

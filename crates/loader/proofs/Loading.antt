@@ -1,11 +1,10 @@
 -- A whole file. Assumes nothing.
 use Prim.Native.Nat.{ℕ, _+_, _≤_, _<_}
-use mathlib.Core.Path.{_≡_, refl, sym, ap, ap₂, subst, _∙_}
-use mathlib.Core.List.{List, [], _∷_, _++_}
+use mathlib.Core.Path.{_≡_, refl, sym, ap, subst, _∙_}
+use mathlib.Core.List.{List, _++_}
 use mathlib.Core.Bool.{Bool, true, false, not}
 use mathlib.Core.Option.{Option, none, some}
 use native.Mathlib.Omega.{arith}
-use lib.Dec.{ltb}
 use lib.ListN.{length, take, drop, replicate, length-take, length-drop, length-append, length-replicate}
 use lib.Seq.{take-append-seam, drop-append-seam}
 use borrow.Author.Tests.{le-ltb}
@@ -14,11 +13,10 @@ use Rattle.model.specs.Limits.{max-bytes, record-words}
 use Rattle.model.specs.Records.{Index}
 use Rattle.model.proofs.Tests.{lt-ltb, none≢some, some-injective, eq-numbers-sound}
 use Rattle.format.specs.Words.{keyword, is-keyword, place-in, word-at}
-use Rattle.format.specs.FirstPass.{First, read, wrong, first-pass}
+use Rattle.format.specs.FirstPass.{read, wrong, first-pass}
 use Rattle.format.specs.LinkCheck.{linked-lines, link-fault}
 use Rattle.links.proofs.Lines.{first-below}
-use Rattle.format.specs.Load.{Loading, accepted, refused, first-lines, first-line-length, version-of, after-first, load-lines, load}
-use Rattle.records.specs.Layout.{index-of}
+use Rattle.format.specs.Load.{accepted, refused, first-lines, first-line-length, version-of, after-first, load-lines, load}
 use Rattle.loader.specs.Load.{loaded-is, ItemsCounted, Cleared, WordsPut, Filled}
 use Rattle.loader.specs.declared.Loaded.{Loaded}
 
@@ -88,12 +86,12 @@ zeros-long = length-replicate {A = ℕ} record-words 0
 pub filled : (file old words : List ℕ) (r : Loaded) → record-words ≤ length old → WordsPut file words r → Filled file old (words ++ drop record-words old) r
 filled file old words r enough put =
     record {
-      is = ap (λ w. loaded-is file w r) first-part ∙ put .is;
-      items = subst (λ w. ItemsCounted file w r) (sym first-part) (put .items);
+      is = ap (λ w. loaded-is file w r) first-part ∙ put .put .is;
+      items = subst (λ w. ItemsCounted file w r) (sym first-part) (put .put .items);
       cleared = subst (λ w. Cleared w r) (sym first-part) (put .cleared);
-      behind = ap (λ k. drop k (words ++ drop record-words old)) (sym (put .long)) ∙ drop-append-seam words (drop record-words old);
-      long = omega (arith, length-append words (drop record-words old), length-drop record-words old, put .long, enough);
+      behind = ap (λ k. drop k (words ++ drop record-words old)) (sym (put .put .long)) ∙ drop-append-seam words (drop record-words old);
+      long = omega (arith, length-append words (drop record-words old), length-drop record-words old, put .put .long, enough);
     }
   where
     first-part : take record-words (words ++ drop record-words old) ≡ words
-    first-part = ap (λ k. take k (words ++ drop record-words old)) (sym (put .long)) ∙ take-append-seam words (drop record-words old)
+    first-part = ap (λ k. take k (words ++ drop record-words old)) (sym (put .put .long)) ∙ take-append-seam words (drop record-words old)

@@ -1,12 +1,11 @@
 -- Q: the line that was read is the row that was written. Assumes nothing.
-use Prim.Native.Nat.{ℕ, _+_, _*_, _≤_, _<_}
-use mathlib.Core.Path.{_≡_, refl, sym, ap, _∙_}
+use Prim.Native.Nat.{ℕ}
+use mathlib.Core.Path.{_≡_, sym, ap}
 use mathlib.Core.List.{List, [], _∷_}
 use mathlib.Core.Option.{Option, none, some}
 use native.Mathlib.Omega.{arith}
-use lib.ListN.{length, drop}
+use lib.ListN.{drop}
 use Rattle.model.specs.Common.{Text, let-some}
-use Rattle.model.specs.Limits.{max-items}
 use Rattle.model.specs.Records.{Question}
 use Rattle.format.specs.declared.LineWord.{LineWord}
 use Rattle.format.specs.declared.QuestionWord.{QuestionWord}
@@ -14,13 +13,13 @@ use Rattle.format.specs.Words.{question-word-of}
 use Rattle.format.specs.Tails as tails
 use Rattle.format.specs.Shapes.{question-shape, question-as}
 use Rattle.format.specs.Lines.{a-question, entry-items, word-here, question-line, line-from}
-use Rattle.records.specs.Layout.{question-place, question-by, question-row}
+use Rattle.records.specs.Layout.{question-place, question-by}
 use Rattle.records.specs.Promises.{Put}
 use Rattle.records.proofs.Stores.{question-put, question-row-same}
 use Rattle.loader.specs.Items.{Behind}
 use Rattle.loader.specs.Numbers.{question-number}
 use Rattle.loader.specs.State.{row-entry, Fine, HasRoom}
-use Rattle.loader.specs.Values.{Words, parts}
+use Rattle.loader.specs.Values.{parts}
 use Rattle.loader.specs.Lines.{tail-by, TailHeld, LinePut}
 use Rattle.loader.specs.declared.rows.Counts.{Counts}
 use Rattle.loader.specs.declared.rows.Tail.{Tail}

@@ -1,29 +1,28 @@
 -- S and M: the line that was read is the row that was written. Assumes nothing.
-use Prim.Native.Nat.{ℕ, _+_, _*_, _≤_, _<_}
+use Prim.Native.Nat.{ℕ, _+_}
 use mathlib.Core.Path.{_≡_, refl, sym, ap, _∙_}
 use mathlib.Core.List.{List, [], _∷_}
 use mathlib.Core.Bool.{true, false}
 use mathlib.Core.Option.{Option, none, some}
 use native.Mathlib.Omega.{arith}
-use lib.ListN.{length, drop}
+use lib.ListN.{drop}
 use Rattle.model.specs.Common.{Text, let-some}
-use Rattle.model.specs.Limits.{max-items}
 use Rattle.model.specs.Records.{Scope}
 use Rattle.format.specs.declared.Kind.{Kind}
 use Rattle.format.specs.declared.LineWord.{LineWord}
 use Rattle.format.specs.declared.ScopeWord.{ScopeWord}
 use Rattle.format.specs.Words.{scope-word-of}
-use Rattle.format.specs.Fields.{Read, slot}
+use Rattle.format.specs.Fields.{slot}
 use Rattle.format.specs.Tails as tails
 use Rattle.format.specs.Shapes.{maybe-num, bare, module-shape, scope-as}
 use Rattle.format.specs.Lines.{a-module, a-scope, entry-items, word-here, module-line, scope-line, line-from}
-use Rattle.records.specs.Layout.{word, module-place, scope-place, link-by, name-by, scope-kind-by, scope-row}
+use Rattle.records.specs.Layout.{word, module-place, scope-place, link-by, name-by, scope-kind-by}
 use Rattle.records.specs.Promises.{Put}
 use Rattle.records.proofs.Stores.{put-append, scope-put, scope-row-same}
 use Rattle.loader.specs.Items.{Behind}
 use Rattle.loader.specs.Numbers.{scope-number}
-use Rattle.loader.specs.State.{row-entry, BeginsAt, Fine, HasRoom}
-use Rattle.loader.specs.Values.{Words, parts, linked}
+use Rattle.loader.specs.State.{row-entry, Fine, HasRoom}
+use Rattle.loader.specs.Values.{parts, linked}
 use Rattle.loader.specs.Lines.{tail-by, TailHeld, scope-fits, LinePut}
 use Rattle.loader.specs.declared.rows.Counts.{Counts}
 use Rattle.loader.specs.declared.rows.Tail.{Tail}

@@ -1,28 +1,27 @@
 -- The line that begins here, as the definition judges it. Assumes nothing.
-use Prim.Native.Nat.{ℕ, suc, _+_, _-_, _≤_, _<_}
+use Prim.Native.Nat.{ℕ, _+_, _-_, _≤_, _<_}
 use mathlib.Core.Path.{_≡_, refl, sym, ap, ap₂, _∙_}
-use mathlib.Core.List.{List, [], _∷_}
+use mathlib.Core.List.{List}
 use mathlib.Core.Bool.{Bool, true, false, not, _&&_}
-use mathlib.Core.Option.{Option, none, some}
+use mathlib.Core.Option.{none}
 use native.Mathlib.Omega.{arith}
 use lib.Dec.{eqb, ltb}
 use lib.ListN.{length, take, drop, getD, drop-of-length-le}
 use borrow.Author.Tests.{eq-eqb, ne-eqb, le-ltb}
-use Rattle.model.specs.Common.{Text, if_then_else_}
+use Rattle.model.specs.Common.{if_then_else_}
 use Rattle.model.specs.Limits.{max-items, item-count}
-use Rattle.model.specs.Records.{Index}
 use Rattle.model.proofs.Tests.{lt-ltb, and-left}
 use Rattle.format.specs.declared.LineWord.{LineWord}
 use Rattle.format.specs.Words.{line-word-of}
-use Rattle.format.specs.Fields.{field-of, behind}
-use Rattle.format.specs.Lines.{Entry, Line, entry-items, line-from}
-use Rattle.format.specs.FirstPass.{Seen, Step, refuse, go, ended, judged, counted, step-on, add, has-line-room, stage-of, in-place, is-again}
+use Rattle.format.specs.Fields.{field-of}
+use Rattle.format.specs.Lines.{Line, entry-items, line-from}
+use Rattle.format.specs.FirstPass.{Seen, Step, refuse, go, ended, judged, counted, step-on, add, stage-of, in-place, is-again}
 use Rattle.words.proofs.Bytes.{here}
 use Rattle.fields.proofs.Numbers.{behind-at}
 use Rattle.fields.proofs.Slots.{field-take}
 use Rattle.loader.specs.State.{index-so-far, seen-as, row-entry, Left, HasRoom, has-room, counts-after}
 use Rattle.loader.specs.Lines.{LineHeld}
-use Rattle.loader.specs.Steps.{again, is-module, repeated, may-stand, Good}
+use Rattle.loader.specs.Steps.{repeated, may-stand, Good}
 use Rattle.loader.specs.declared.rows.Counts.{Counts}
 use Rattle.loader.proofs.Advancing.{stage-after, again-is}
 use Rattle.loader.proofs.Keeping.{room-is, same-index, entry-is, index-after}

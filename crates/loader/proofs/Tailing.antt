@@ -1,26 +1,25 @@
 -- What stands behind a word: three fields and a list. Assumes nothing.
-use Prim.Native.Nat.{ℕ, suc, _+_, _*_, _≤_, _<_}
-use mathlib.Core.Path.{_≡_, refl, sym, ap, subst, _∙_}
-use mathlib.Core.List.{List, [], _∷_}
-use mathlib.Core.Bool.{Bool, true, false, false≢true}
+use Prim.Native.Nat.{ℕ, suc, _+_, _*_, _≤_}
+use mathlib.Core.Path.{_≡_, sym, ap, subst, _∙_}
+use mathlib.Core.List.{List}
+use mathlib.Core.Bool.{Bool, true, false}
 use mathlib.Core.Option.{Option, none, some}
 use native.Mathlib.Omega.{arith}
 use lib.ListN.{length, drop}
-use Rattle.model.specs.Common.{Text, let-some}
+use Rattle.model.specs.Common.{Text}
 use Rattle.model.specs.Limits.{max-items}
 use Rattle.model.proofs.Tests.{none≢some, some-injective}
 use Rattle.format.specs.declared.Kind.{Kind}
 use Rattle.format.specs.declared.Listed.{Listed}
 use Rattle.format.specs.declared.Shape.{Shape}
 use Rattle.format.specs.Tails as tails
-use Rattle.records.specs.Layout.{each, item-place}
+use Rattle.records.specs.Layout.{item-place}
 use Rattle.records.specs.Promises.{Same}
 use Rattle.records.proofs.Lists.{each-same}
 use Rattle.loader.specs.Values.{parts, value-by, three-words-is}
-use Rattle.loader.specs.Items.{item-by, item-row, items-by, ItemsHeld, ItemsAre}
+use Rattle.loader.specs.Items.{item-by, item-row, items-by, ItemsHeld}
 use Rattle.loader.specs.Lines.{tail-by, TailHeld, TailIs, TailPut}
 use Rattle.loader.specs.declared.values.ThreeWords.{ThreeWords}
-use Rattle.loader.specs.declared.items.ItemsRead.{ItemsRead}
 use Rattle.loader.specs.declared.rows.Tail.{Tail}
 use Rattle.loader.specs.declared.rows.TailRead.{TailRead}
 

@@ -1,28 +1,27 @@
 -- T: the line that was read is the row that was written. Assumes nothing.
-use Prim.Native.Nat.{ℕ, _+_, _*_, _≤_, _<_}
-use mathlib.Core.Path.{_≡_, refl, sym, ap, subst, _∙_}
+use Prim.Native.Nat.{ℕ, _+_, _≤_}
+use mathlib.Core.Path.{_≡_, sym, ap, subst, _∙_}
 use mathlib.Core.List.{List, [], _∷_}
 use mathlib.Core.Option.{Option, none, some}
 use native.Mathlib.Omega.{arith}
-use lib.ListN.{length, drop}
+use lib.ListN.{drop}
 use Rattle.model.specs.Common.{Text, let-some}
 use Rattle.model.specs.Limits.{max-items, type-expr-items}
 use Rattle.model.specs.Records.{TypeExpr}
 use Rattle.format.specs.declared.LineWord.{LineWord}
-use Rattle.format.specs.declared.Shape.{Shape}
 use Rattle.format.specs.declared.TypeWord.{TypeWord}
 use Rattle.format.specs.Words.{type-word-of}
 use Rattle.format.specs.Tails as tails
 use Rattle.format.specs.Shapes.{type-shape, type-as}
-use Rattle.format.specs.Lines.{Entry, a-type, entry-items, Line, WordRead, word-here, type-line, line-from}
+use Rattle.format.specs.Lines.{a-type, entry-items, word-here, type-line, line-from}
 use Rattle.records.specs.Layout.{word, type-expr-place, item-place, type-expr-by, type-expr-row}
-use Rattle.records.specs.Promises.{Put, Same}
+use Rattle.records.specs.Promises.{Put}
 use Rattle.records.proofs.Stores.{type-expr-put, type-expr-row-same, same-above, Listed}
 use Rattle.loader.specs.Items.{Behind}
 use Rattle.loader.specs.Numbers.{type-number}
-use Rattle.loader.specs.State.{row-entry, Left, Fine, HasRoom, counts-after}
-use Rattle.loader.specs.Values.{Words, parts}
-use Rattle.loader.specs.Lines.{tail-by, TailHeld, last-word, LineHeld, LinePut}
+use Rattle.loader.specs.State.{row-entry, Fine, HasRoom}
+use Rattle.loader.specs.Values.{parts}
+use Rattle.loader.specs.Lines.{tail-by, TailHeld, last-word, LinePut}
 use Rattle.loader.specs.declared.rows.Counts.{Counts}
 use Rattle.loader.specs.declared.rows.Tail.{Tail}
 use Rattle.loader.specs.declared.rows.LineRead.{LineRead}

@@ -1,5 +1,5 @@
 -- The list at a line's end, and its items in the words. Assumes nothing.
-use Prim.Native.Nat.{ℕ, suc, _+_, _≤_, _<_}
+use Prim.Native.Nat.{ℕ, _+_, _≤_, _<_}
 use mathlib.Core.Path.{_≡_}
 use mathlib.Core.List.{List}
 use mathlib.Core.Bool.{Bool, true, false}
@@ -8,7 +8,7 @@ use lib.ListN.{length, drop}
 use Rattle.model.specs.Common.{Text, let-some}
 use Rattle.model.specs.Limits.{max-items}
 use Rattle.format.specs.declared.Listed.{Listed}
-use Rattle.format.specs.Fields.{Value, slot}
+use Rattle.format.specs.Fields.{slot}
 use Rattle.format.specs.Tails.{Item, items, first-kind, second-kind}
 use Rattle.records.specs.Layout.{word, each, item-place, item-value, item-name}
 use Rattle.loader.specs.Values.{Words, value-by}

@@ -10,7 +10,6 @@ use Rattle.model.specs.Common.{Text, let-some}
 use Rattle.model.specs.Records.{Origin}
 use Rattle.model.specs.Limits.{max-items}
 use Rattle.format.specs.declared.Kind.{Kind}
-use Rattle.format.specs.declared.Listed.{Listed}
 use Rattle.format.specs.declared.Shape.{Shape}
 use Rattle.format.specs.declared.ScopeWord.{ScopeWord}
 use Rattle.format.specs.declared.LineWord.{LineWord}

@@ -5,6 +5,7 @@ use mathlib.Core.List.{List}
 use lib.ListN.{length, take, drop, replicate}
 use Rattle.model.specs.Common.{Text}
 use Rattle.model.specs.Limits.{record-words, item-count}
+use Rattle.model.specs.Refusals.{refusal-buffer}
 use Rattle.format.specs.Load as format
 use Rattle.records.specs.Layout.{word, index-of}
 use Rattle.loader.specs.declared.Loaded.{Loaded}
@@ -30,9 +31,7 @@ pub record FilePut (file words : List ℕ) (r : Loaded) : Type 0 where
   pub items : ItemsCounted file words r
 
 pub record WordsPut (file words : List ℕ) (r : Loaded) : Type 0 where
-  pub long : length words ≡ record-words
-  pub is : loaded-is file words r ≡ format.load file
-  pub items : ItemsCounted file words r
+  pub put : FilePut file words r
   pub cleared : Cleared words r
 
 -- a buffer that is long enough: its first words, and those behind them
@@ -45,5 +44,5 @@ pub record Filled (file before after : List ℕ) (r : Loaded) : Type 0 where
 
 -- a shorter one
 pub record Short (before after : List ℕ) (r : Loaded) : Type 0 where
-  pub is : r ≡ Loaded.Refused 1 0
+  pub is : r ≡ Loaded.Refused refusal-buffer 0
   pub same : after ≡ before

@@ -10,6 +10,7 @@ ghost use mathlib.Core.Path.{_≡_};
 ghost use Prim.Native.Nat.{ℕ, _≤_, _<_};
 ghost use mathlib.Core.List.{List};
 ghost use lib.ListN.{length, replicate};
+ghost use Rattle.model.specs.Limits.{max-modules, record-words};
 ghost use Rattle.format.specs.LinkCheck.{link-fault};
 ghost use Rattle.records.specs.Layout.{module-count, index-of};
 ghost use Rattle.links.specs.Meaning.{fault-of};
@@ -43,7 +44,7 @@ fn clear(words: &mut [u32])
 
 // The first line whose links don't lead. Rows stand in the order of their lines, and the first of them is line 2.
 fn fault_line(words: &[u32]) -> Fault
-    requires { ⌜ module-count (now words) ≤ 8 ⌝ }
+    requires { ⌜ module-count (now words) ≤ max-modules ⌝ }
     ensures { λ r. ⌜ ((file : List ℕ) → fault-of r ≡ link-fault (index-of file (now (words .entry)))) ⌝ }
 {
     let modules = records::module_count(words);
@@ -68,7 +69,7 @@ fn fault_line(words: &[u32]) -> Fault
 }
 
 fn read_file(file: &[u8], words: &mut [u32]) -> Loaded
-    requires { ⌜ length (now words) ≡ 16384 ⌝ }
+    requires { ⌜ length (now words) ≡ record-words ⌝ }
     ensures { λ r. ⌜ FilePut (now (file .entry)) (now (words .exit)) r ⌝ }
 {
     if FILE_BYTES < file.len() {
@@ -87,7 +88,7 @@ fn read_file(file: &[u8], words: &mut [u32]) -> Loaded
 }
 
 fn load_words(file: &[u8], words: &mut [u32]) -> Loaded
-    requires { ⌜ length (now words) ≡ 16384 ⌝ }
+    requires { ⌜ length (now words) ≡ record-words ⌝ }
     ensures { λ r. ⌜ WordsPut (now (file .entry)) (now (words .exit)) r ⌝ }
 {
     match read_file(file, words) {
@@ -102,8 +103,8 @@ fn load_words(file: &[u8], words: &mut [u32]) -> Loaded
 // The words of an index file. A buffer that is too short is refused with 1 and left as it is; any other refusal leaves its first 16,384 words zero;
 // the words behind these are left.
 pub fn load(file: &[u8], records: &mut [u32]) -> Loaded
-    ensures short { λ r. ⌜ (length (now (records .entry)) < 16384 → Short (now (records .entry)) (now (records .exit)) r) ⌝ }
-    ensures full { λ r. ⌜ (16384 ≤ length (now (records .entry)) → Filled (now (file .entry)) (now (records .entry)) (now (records .exit)) r) ⌝ }
+    ensures short { λ r. ⌜ (length (now (records .entry)) < record-words → Short (now (records .entry)) (now (records .exit)) r) ⌝ }
+    ensures full { λ r. ⌜ (record-words ≤ length (now (records .entry)) → Filled (now (file .entry)) (now (records .entry)) (now (records .exit)) r) ⌝ }
 {
     if records.len() < RECORD_WORDS {
         return Loaded::Refused(1, 0);

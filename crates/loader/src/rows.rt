@@ -4,7 +4,6 @@ ghost use Prim.Native.Nat.{_+_, _*_, _≤_, _<_};
 ghost use mathlib.Core.List.{[], _∷_};
 ghost use lib.ListN.{length, drop};
 ghost use Rattle.model.specs.Limits.{max-items};
-ghost use Rattle.format.specs.Tails.{is-empty-list};
 ghost use Rattle.format.specs.declared.LineWord.{LineWord};
 ghost use Rattle.records.specs.Promises.{Put};
 ghost use Rattle.loader.specs.State.{Fine, HasRoom};
@@ -18,7 +17,6 @@ use crate::values::SlotWords;
 use crate::values::ThreeWords;
 use fields::Word;
 use format::Kind;
-use format::Listed;
 use format::ScopeWord;
 use format::Shape;
 

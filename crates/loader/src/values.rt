@@ -1,6 +1,6 @@
 // The words that a field's value takes in a row (docs/LAYOUT.md, 'Forms of a word').
 ghost use mathlib.Core.Path.{_≡_};
-ghost use Prim.Native.Nat.{_+_, _*_, _/_, _%_, _≤_, _<_};
+ghost use Prim.Native.Nat.{_+_, _*_, _≤_, _<_};
 ghost use lib.ListN.{length, drop};
 ghost use Rattle.format.specs.Fields.{slot};
 ghost use Rattle.format.specs.Tails.{three};

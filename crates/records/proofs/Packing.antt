@@ -40,12 +40,6 @@ each-part l start (suc count) h =
     tail : (a b n : ℕ) → a + suc b ≤ n → suc a + b ≤ n
     tail a b n h = omega arith
 
--- a name's word, and the name's bytes in the file
-pub name-packed : (file : List ℕ) (start count : ℕ) → start < 65536 → start + count ≤ length file → name-by file (start + 65536 * count) ≡ take count (drop start file)
-unfolding name-by
-name-packed file start count low fits =
-    ap₂ (each (word file)) (start-packed start count low) (length-packed start count low) ∙ each-part file start count fits
-
 -- a name that is there is no `-`
 pub suffix-packed : (file : List ℕ) (v : ℕ) → 0 < v → suffix-by file v ≡ some (name-by file v)
 unfolding suffix-by

@@ -162,9 +162,6 @@ expression-put {words′ = words′} file n kinds scope start end expected defin
 
 -- ------------------------------------------------------------------ rows that a store leaves
 
-pub same-below : {words : List ℕ} {at : ℕ} {values words′ : List ℕ} → Put words at values words′ → (from to : ℕ) → to ≤ at → Same words words′ from to
-same-below p from to h i le lt = p .outside i (inl (omega arith))
-
 pub same-above : {words : List ℕ} {at : ℕ} {values words′ : List ℕ} → Put words at values words′ → (from to : ℕ) → at + length values ≤ from → Same words words′ from to
 same-above p from to h i le lt = p .outside i (inr (omega arith))
 

@@ -1,5 +1,6 @@
-//! Compares what the proved `load` does with the Rust loader, in one process: its verdict and every
-//! word of the buffer, on right files and on files with faults.
+//! Compares what the proved `load` does with the Rust loader, in one process, on right files and on
+//! files with faults: its verdict, the words behind the buffer and the zeros of a refusal in a buffer
+//! that isn't clear, and every record word of an accepted file in a cleared one.
 
 use index_file::load::{Refusal, load};
 use index_file::words::{WORDS, with_plain_empty_lists, words};
@@ -10,7 +11,7 @@ use crate::library;
 /// Words behind the record buffer, which stay.
 const BEHIND: usize = 16;
 
-/// So many files are loaded into too short a buffer too, one of this many.
+/// One file of so many is also loaded into too short a buffer.
 const SHORT: u64 = 64;
 
 /// True if no file differs; differing ones are written to the folder.

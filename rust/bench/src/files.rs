@@ -1,6 +1,6 @@
-//! Index files of given sizes, the same at each run: records in the proportions of exported programs
-//! (rust/programs), which have 14 E, 18 Q, 4 D and 4 T in a KB; at 64 KB, all limits of document 01
-//! but the items' are reached. Names are as long as the size needs.
+//! Index files of given sizes, the same at each run: records of all kinds, up to the size near the
+//! proportions of exported programs (rust/programs: 14 E, 18 Q, 4 D and 4 T in a KB); at 64 KB as many
+//! as document 01 allows of each kind. Names are as long as the size needs.
 
 use index_file::limits;
 use index_file::records::*;

@@ -10,23 +10,18 @@ use Rattle.check_index.proofs.check_file.Lts as lts
 use Rattle.check_index.proofs.put_line.Reads as put-line-reads
 use Rattle.loader.proofs.load.Reads as load-reads
 
--- src/main.rt:159:9
 load-requires : tie.Need-load-requires
 load-requires c κs = search needs
 
--- src/main.rt:160:5
 put-line-requires : tie.Need-put-line-requires
 put-line-requires c κs = search needs
 
--- src/main.rt:154:1
 same-length : tie.Need-same-length
 same-length c = search needs
 
--- src/main.rt:154:1
 same-length-2 : tie.Need-same-length-2
 same-length-2 c = search needs
 
--- src/main.rt:154:1
 returns : tie.Need-returns
 returns c =
     let a = (c .before .before .before .before .before .before .before .before .before .before .before .before .args) in

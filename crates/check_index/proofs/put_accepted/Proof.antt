@@ -1,8 +1,7 @@
 -- `check_index::put_accepted` meets its contract: the word, the numbers, the line's end. Assumes nothing.
-use mathlib.Core.Path.{_≡_, sym, ap, _∙_}
-use mathlib.Core.List.{List, [], _∷_, _++_}
+use mathlib.Core.Path.{ap, _∙_}
+use mathlib.Core.List.{List, _++_}
 use Prim.Native.Nat.{ℕ}
-use native.Mathlib.Omega.{arith}
 use Rattle.model.specs.Common.{bytes}
 use Rattle.check_index.specs.Line.{counted, counts}
 use Rattle.check_index.proofs.Puts.{counts-of}

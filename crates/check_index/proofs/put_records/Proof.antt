@@ -1,9 +1,8 @@
 -- `check_index::put_records` meets its contract: the numbers that were read are those of the words. Assumes nothing.
-use mathlib.Core.Path.{_≡_, sym, ap, _∙_}
-use mathlib.Core.List.{List, [], _∷_, _++_}
+use mathlib.Core.Path.{ap, _∙_}
+use mathlib.Core.List.{List, [], _∷_}
 use Prim.Native.Nat.{ℕ}
 use lib.ListN.{take}
-use native.Mathlib.Omega.{arith}
 use Rattle.check_index.specs.Line.{counted}
 use Rattle.check_index.proofs.Totals.{counts-are}
 use borrow.Author.Needs.{needs}

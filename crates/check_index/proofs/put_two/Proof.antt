@@ -1,8 +1,7 @@
 -- `check_index::put_two` meets its contract: one number behind the other. Assumes nothing.
-use mathlib.Core.Path.{_≡_, sym, ap, _∙_}
+use mathlib.Core.Path.{ap, _∙_}
 use borrow.Author.Needs.{needs}
-use native.Mathlib.Omega.{arith}
-use mathlib.Core.List.{List, [], _∷_, _++_}
+use mathlib.Core.List.{List, [], _∷_}
 use Prim.Native.Nat.{ℕ}
 use Rattle.check_index.specs.Line.{counted}
 use Rattle.check_index.proofs.put_two.Statement.{statement}

@@ -8,47 +8,36 @@ use Rattle.export.proofs.roognaps_load.Reads as reads
 use Rattle.export.proofs.roognaps_load.Lts as lts
 use Rattle.loader.proofs.load.Reads as load-reads
 
--- src/lib.rt:24:11
 load-requires : tie.Need-load-requires
 load-requires c κs = search needs
 
--- src/lib.rt:25:29
 enum-told : tie.Need-enum-told
 enum-told c = search needs
 
--- src/lib.rt:26:25
 enum-known-number : tie.Need-enum-known-number
 enum-known-number c = search needs
 
--- src/lib.rt:26:43
 cast-result : tie.Need-cast-result
 cast-result c = search needs
 
--- src/lib.rt:26:42
 mul-result : tie.Need-mul-result
 mul-result c = search needs
 
--- src/lib.rt:26:74
 cast-result-2 : tie.Need-cast-result-2
 cast-result-2 c = search needs
 
--- src/lib.rt:26:42
 add-result : tie.Need-add-result
 add-result c = search needs
 
--- src/lib.rt:20:1
 same-length : tie.Need-same-length
 same-length c = search needs
 
--- src/lib.rt:20:1
 returns : tie.Need-returns
 returns c = record { loaded = (c .before .before .before .before .load) .result; is = sym (ap loaded-number ((c .enum-told) .given .1)); short = (c .before .before .before .before .load) .ensures .0; full = (c .before .before .before .before .load) .ensures .1 }
 
--- src/lib.rt:20:1
 same-length-2 : tie.Need-same-length-2
 same-length-2 c = search needs
 
--- src/lib.rt:20:1
 returns-2 : tie.Need-returns-2
 returns-2 c = record { loaded = (c .before .before .before .before .before .load) .result; is = sym (ap loaded-number ((c .before .number) .given .1)); short = (c .before .before .before .before .before .load) .ensures .0; full = (c .before .before .before .before .before .load) .ensures .1 }
 

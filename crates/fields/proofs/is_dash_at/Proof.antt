@@ -10,31 +10,25 @@ use Rattle.fields.proofs.is_dash_at.Reads as reads
 use Rattle.fields.proofs.is_dash_at.Lts as lts
 use Rattle.fields.proofs.is_end.Reads as is-end-reads
 
--- src/lib.rt:99:9
 returns : tie.Need-returns
 returns c =
     let a = c .before .before .args in
     dash-out (a .file .now) (a .from) (field-out (a .file .now) (a .from) (c .if1 .taken))
 
--- src/lib.rt:101:8
 shared-slice-read-if2 : tie.Need-shared-slice-read-if2
 shared-slice-read-if2 c = search needs
 
--- src/lib.rt:102:9
 returns-2 : tie.Need-returns-2
 returns-2 c =
     let a = c .before .before .before .before .args in
     dash-other (a .file .now) (a .from) (omega arith) (c .if2 .taken)
 
--- src/lib.rt:104:18
 add-is-end : tie.Need-add-is-end
 add-is-end c = search needs
 
--- src/lib.rt:104:5
 is-end-requires : tie.Need-is-end-requires
 is-end-requires c κs = search needs
 
--- src/lib.rt:95:1
 returns-3 : tie.Need-returns-3
 returns-3 c =
     let a = c .before .before .before .before .before .args in

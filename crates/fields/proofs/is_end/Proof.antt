@@ -8,21 +8,17 @@ use Rattle.fields.proofs.is_end.Tie as tie
 use Rattle.fields.proofs.is_end.Reads as reads
 use Rattle.fields.proofs.is_end.Lts as lts
 
--- src/lib.rt:68:9
 returns : tie.Need-returns
 returns c = empty-is (c .before .args .file .now) (c .before .args .from) (field-out (c .before .args .file .now) (c .before .args .from) (c .if1 .taken))
 
--- src/lib.rt:70:13
 shared-slice-read-b : tie.Need-shared-slice-read-b
 shared-slice-read-b c = search needs
 
--- src/lib.rt:72:9
 returns-2 : tie.Need-returns-2
 returns-2 c =
     let a = c .before .before .before .args in
     empty-is (a .file .now) (a .from) (field-stop (a .file .now) (a .from) (omega arith) (stops-tab _ (c .if2 .taken)))
 
--- src/lib.rt:64:1
 returns-3 : tie.Need-returns-3
 returns-3 c =
     let a = c .before .before .before .args in

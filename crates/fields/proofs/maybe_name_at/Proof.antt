@@ -10,27 +10,22 @@ use Rattle.fields.proofs.maybe_name_at.Lts as lts
 use Rattle.fields.proofs.is_dash_at.Reads as is-dash-at-reads
 use Rattle.fields.proofs.name_at.Reads as name-at-reads
 
--- src/lib.rt:161:8
 is-dash-at-requires : tie.Need-is-dash-at-requires
 is-dash-at-requires c κs = search needs
 
--- src/lib.rt:162:40
 add-t5 : tie.Need-add-t5
 add-t5 c =
     let a = c .before .before .before .args in
     omega (arith, dash-inside (a .file .now) (a .from) (sym (c .before .is-dash-at .ensures) ∙ c .if1 .taken))
 
--- src/lib.rt:162:9
 returns : tie.Need-returns
 returns c =
     let a = c .before .before .before .args in
     sym (maybe-name-yes (a .file .now) (a .from) (sym (c .before .is-dash-at .ensures) ∙ c .if1 .taken))
 
--- src/lib.rt:164:5
 name-at-requires : tie.Need-name-at-requires
 name-at-requires c κs = search needs
 
--- src/lib.rt:158:1
 returns-2 : tie.Need-returns-2
 returns-2 c =
     let a = c .before .before .before .before .args in

@@ -19,25 +19,20 @@ use Rattle.fields.proofs.is_dash_at.Reads as is-dash-at-reads
 use Rattle.fields.proofs.is_end.Reads as is-end-reads
 use Rattle.fields.proofs.visible_end.Reads as visible-end-reads
 
--- src/lib.rt:130:8
 is-dash-at-requires : tie.Need-is-dash-at-requires
 is-dash-at-requires c κs = search needs
 
--- src/lib.rt:131:9
 returns : tie.Need-returns
 returns c =
     let a = c .before .before .before .args in
     sym (name-dash (a .file .now) (a .from) (sym (c .before .is-dash-at .ensures) ∙ c .if1 .taken))
 
--- src/lib.rt:133:9
 visible-end-requires : tie.Need-visible-end-requires
 visible-end-requires c κs = search needs
 
--- src/lib.rt:134:9
 is-end-requires : tie.Need-is-end-requires
 is-end-requires c κs = search needs
 
--- src/lib.rt:135:9
 returns-2 : tie.Need-returns-2
 returns-2 c =
     let a = c .before .before .before .before .before .before .args in
@@ -45,11 +40,9 @@ returns-2 c =
     let q = c .before .before .visible-end .ensures in
     sym (name-hidden s (a .from) (ap (λ n. is-empty (field-of (drop n s))) (sym q) ∙ sym (c .before .is-end .ensures) ∙ not-yes _ (c .if2 .taken)))
 
--- src/lib.rt:137:13
 sub-n : tie.Need-sub-n
 sub-n c = search needs
 
--- src/lib.rt:139:9
 returns-3 : tie.Need-returns-3
 returns-3 c =
     let a = c .before .before .before .before .before .before .before .args in
@@ -59,7 +52,6 @@ returns-3 c =
     let ends = is-empty-of s (p + length (visible-run (drop p s))) (ap (λ n. is-empty (field-of (drop n s))) (sym q) ∙ sym (c .before .before .is-end .ensures) ∙ not-no _ (c .before .if2 .left)) in
     sym (name-empty s p ends (omega (arith, q)))
 
--- src/lib.rt:142:9
 returns-4 : tie.Need-returns-4
 returns-4 c =
     let a = c .before .before .before .before .before .before .before .before .args in
@@ -69,7 +61,6 @@ returns-4 c =
     let ends = is-empty-of s (p + length (visible-run (drop p s))) (ap (λ n. is-empty (field-of (drop n s))) (sym q) ∙ sym (c .before .before .before .is-end .ensures) ∙ not-no _ (c .before .before .if2 .left)) in
     sym (name-long s p ends (omega (arith, q)))
 
--- src/lib.rt:127:1
 returns-5 : tie.Need-returns-5
 returns-5 c =
     let a = c .before .before .before .before .before .before .before .before .args in

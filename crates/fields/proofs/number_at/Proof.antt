@@ -11,31 +11,25 @@ use Rattle.fields.proofs.number_at.Lts as lts
 use Rattle.fields.proofs.digits_at.Reads as digits-at-reads
 use Rattle.fields.proofs.is_end.Reads as is-end-reads
 
--- src/lib.rt:81:8
 is-end-requires : tie.Need-is-end-requires
 is-end-requires c κs = search needs
 
--- src/lib.rt:82:9
 returns : tie.Need-returns
 returns c =
     let a = c .before .before .before .args in
     sym (number-none (a .file .now) (a .from) (a .most) (is-empty-of (a .file .now) (a .from) (sym (c .before .is-end .ensures) ∙ c .if1 .taken)))
 
--- src/lib.rt:84:8
 shared-slice-read-if2 : tie.Need-shared-slice-read-if2
 shared-slice-read-if2 c =
     let a = c .before .before .before .before .args in begins-here (a .file .now) (a .from) (sym (c .before .before .is-end .ensures) ∙ c .before .if1 .left)
 
--- src/lib.rt:85:17
 add-e : tie.Need-add-e
 add-e c =
     let a = c .before .before .before .before .before .args in omega (arith, begins-here (a .file .now) (a .from) (sym (c .before .before .before .is-end .ensures) ∙ c .before .before .if1 .left))
 
--- src/lib.rt:86:12
 is-end-requires-2 : tie.Need-is-end-requires-2
 is-end-requires-2 c κs = search needs
 
--- src/lib.rt:87:13
 returns-2 : tie.Need-returns-2
 returns-2 c =
     let a = c .before .before .before .before .before .before .before .args in
@@ -44,7 +38,6 @@ returns-2 c =
     let inside = begins-here s (a .from) full in
     sym (number-zero s (a .from) (a .most) inside (not-stop s (a .from) inside full) (c .before .before .if2 .taken) (is-empty-of s (a .from + 1) (sym (c .before .is-end2 .ensures) ∙ c .if3 .taken)))
 
--- src/lib.rt:89:9
 returns-3 : tie.Need-returns-3
 returns-3 c =
     let a = c .before .before .before .before .before .before .before .args in
@@ -53,11 +46,9 @@ returns-3 c =
     let inside = begins-here s (a .from) full in
     sym (number-after-zero s (a .from) (a .most) inside (not-stop s (a .from) inside full) (c .before .before .if2 .taken) (sym (c .before .is-end2 .ensures) ∙ c .if3 .left))
 
--- src/lib.rt:91:5
 digits-at-requires : tie.Need-digits-at-requires
 digits-at-requires c κs = search needs
 
--- src/lib.rt:78:1
 returns-4 : tie.Need-returns-4
 returns-4 c =
     let a = c .before .before .before .before .before .before .args in

@@ -13,37 +13,29 @@ use Rattle.fields.proofs.operator_at.Lts as lts
 use Rattle.words.proofs.field_end.Reads as field-end-reads
 use Rattle.words.proofs.find_word.Reads as find-word-reads
 
--- src/lib.rt:181:9
 field-end-requires : tie.Need-field-end-requires
 field-end-requires c κs = search needs
 
--- src/lib.rt:182:21
 sub-find-word : tie.Need-sub-find-word
 sub-find-word c = search needs
 
--- src/lib.rt:182:21
 part-find-word-start : tie.Need-part-find-word-start
 part-find-word-start c = search needs
 
--- src/lib.rt:182:21
 part-find-word-end : tie.Need-part-find-word-end
 part-find-word-end c =
     let a = c .before .before .before .args in
     omega (arith, c .field-end .ensures, field-fits (a .file .now) (a .from) (c .before .before .before .pre))
 
--- src/lib.rt:182:11
 find-word-requires : tie.Need-find-word-requires
 find-word-requires c κs = search needs
 
--- src/lib.rt:183:19
 enum-known-k : tie.Need-enum-known-k
 enum-known-k c = search needs
 
--- src/lib.rt:184:27
 enum-told : tie.Need-enum-told
 enum-told c = search needs
 
--- src/lib.rt:177:1
 returns : tie.Need-returns
 returns c =
     let a = c .before .before .before .before .before .before .before .before .args in
@@ -52,7 +44,6 @@ returns c =
     (operator-is s (a .from) _ _ _ (c .before .before .before .find-word .result) (c .before .before .before .before .before .field-end .ensures) (c .before .before .before .find-word .ensures)
     ∙ ap (λ r. reading (drop (c .before .before .before .before .before .field-end .result) s) (numbered (found-is r))) (c .before .k .given .1))
 
--- src/lib.rt:177:1
 returns-2 : tie.Need-returns-2
 returns-2 c =
     let a = c .before .before .before .before .before .before .before .args in

@@ -10,41 +10,33 @@ use Rattle.fields.proofs.read_slot.Lts as lts
 use Rattle.fields.proofs.is_nothing.Reads as is-nothing-reads
 use Rattle.fields.proofs.value_at.Reads as value-at-reads
 
--- src/lib.rt:223:8
 is-nothing-requires : tie.Need-is-nothing-requires
 is-nothing-requires c κs = search needs
 
--- src/lib.rt:224:9
 returns : tie.Need-returns
 returns c =
     let a = c .before .before .before .args in
     sym (slot-nothing (a .kind) (a .file .now) (a .at) (sym (c .before .is-nothing .ensures) ∙ c .if1 .taken))
 
--- src/lib.rt:227:9
 returns-2 : tie.Need-returns-2
 returns-2 c =
     let a = c .before .before .before .before .args in
     sym (slot-out (a .kind) (a .file .now) (a .at) (sym (c .before .before .is-nothing .ensures) ∙ c .before .if1 .left) (c .if2 .taken))
 
--- src/lib.rt:229:8
 shared-slice-read-if3 : tie.Need-shared-slice-read-if3
 shared-slice-read-if3 c = search needs
 
--- src/lib.rt:230:9
 returns-3 : tie.Need-returns-3
 returns-3 c =
     let a = c .before .before .before .before .before .before .args in
     sym (slot-no-tab (a .kind) (a .file .now) (a .at) (sym (c .before .before .before .before .is-nothing .ensures) ∙ c .before .before .before .if1 .left) (omega arith) (c .if3 .taken))
 
--- src/lib.rt:232:26
 add-value-at : tie.Need-add-value-at
 add-value-at c = search needs
 
--- src/lib.rt:232:5
 value-at-requires : tie.Need-value-at-requires
 value-at-requires c κs = search needs
 
--- src/lib.rt:220:1
 returns-4 : tie.Need-returns-4
 returns-4 c =
     let a = c .before .before .before .before .before .before .before .args in

@@ -11,15 +11,12 @@ use Rattle.fields.proofs.unary_op_at.Reads as reads
 use Rattle.fields.proofs.unary_op_at.Lts as lts
 use Rattle.fields.proofs.operator_at.Reads as operator-at-reads
 
--- src/lib.rt:206:9
 slice-aggregate-operator-at : tie.Need-slice-aggregate-operator-at
 slice-aggregate-operator-at c = search needs
 
--- src/lib.rt:203:5
 operator-at-requires : tie.Need-operator-at-requires
 operator-at-requires c κs = search needs
 
--- src/lib.rt:199:1
 returns : tie.Need-returns
 unfolding maps-from eq-numbers
 returns c = unary-op-is (drop ((c .before .before .before .before .args) .from) ((c .before .before .before .before .args) .file .now)) _ _ _ ((c .operator-at) .ensures) refl

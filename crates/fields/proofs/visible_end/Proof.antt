@@ -16,44 +16,36 @@ Inv-loop file from e₀ e = e + length (visible-run (drop e file)) ≡ from + le
 abbrev μ-loop : tie.MeasureT-loop
 μ-loop file from e₀ e = length file - e
 
--- src/lib.rt:113:5
 loop-holds : tie.Need-loop-holds Inv-loop μ-loop
 loop-holds c = refl
 
--- src/lib.rt:114:17
 shared-slice-read-b : tie.Need-shared-slice-read-b Inv-loop μ-loop
 shared-slice-read-b c = omega arith
 
--- src/lib.rt:116:13
 returns : tie.Need-returns Inv-loop μ-loop
 returns c =
     let l = c .before .before .before in
     let s = l .before .args .file .now in
     omega (arith, l .loop .inv, ap length (run-low s (l .loop .e) (omega arith) (c .if1 .taken)))
 
--- src/lib.rt:119:13
 returns-2 : tie.Need-returns-2 Inv-loop μ-loop
 returns-2 c =
     let l = c .before .before .before .before in
     let s = l .before .args .file .now in
     omega (arith, l .loop .inv, ap length (run-high s (l .loop .e) (omega arith) (c .before .if1 .left) (c .if2 .taken)))
 
--- src/lib.rt:121:9
 add-e : tie.Need-add-e Inv-loop μ-loop
 add-e c = omega arith
 
--- src/lib.rt:113:5
 loop-less : tie.Need-loop-less Inv-loop μ-loop
 loop-less c = omega arith
 
--- src/lib.rt:113:5
 loop-again : tie.Need-loop-again Inv-loop μ-loop
 loop-again c =
     let l = c .before .before .before .before in
     let s = l .before .args .file .now in
     omega (arith, l .loop .inv, ap length (run-more s (l .loop .e) (omega arith) (c .before .if1 .left) (c .if2 .left)))
 
--- src/lib.rt:109:1
 returns-3 : tie.Need-returns-3 Inv-loop μ-loop
 returns-3 c =
     let l = c .before in

@@ -10,29 +10,23 @@ use Rattle.fields.proofs.word_here.Reads as reads
 use Rattle.fields.proofs.word_here.Lts as lts
 use Rattle.words.proofs.field_end.Reads as field-end-reads
 
--- src/lib.rt:285:9
 returns : tie.Need-returns
 returns c =
     let a = c .before .before .args in record { is = sym (word-out (a .file .now) (a .at) (c .if1 .taken)); inside = Prim.tt }
 
--- src/lib.rt:287:8
 shared-slice-read-if2 : tie.Need-shared-slice-read-if2
 shared-slice-read-if2 c = search needs
 
--- src/lib.rt:288:9
 returns-2 : tie.Need-returns-2
 returns-2 c =
     let a = c .before .before .before .before .args in record { is = sym (word-no-tab (a .file .now) (a .at) (omega arith) (c .if2 .taken)); inside = Prim.tt }
 
--- src/lib.rt:290:16
 add-from : tie.Need-add-from
 add-from c = search needs
 
--- src/lib.rt:291:20
 field-end-requires : tie.Need-field-end-requires
 field-end-requires c κs = search needs
 
--- src/lib.rt:281:1
 returns-3 : tie.Need-returns-3
 returns-3 c =
     let a = c .before .before .before .before .before .args in

@@ -17,37 +17,29 @@ Inv-loop words₀ i₀ words i = (i ≤ length words₀) × (length words ≡ le
 abbrev μ-loop : tie.MeasureT-loop
 μ-loop words₀ i₀ words i = length words₀ - i
 
--- src/lib.rt:38:5
 loop-holds : tie.Need-loop-holds Inv-loop μ-loop
 loop-holds c = (zero-le, refl, fill-none ((c .args) .words .now) 0)
 
--- src/lib.rt:39:9
 mul-words : tie.Need-mul-words Inv-loop μ-loop
 mul-words c = omega arith
 
--- src/lib.rt:39:9
 slice-write-words : tie.Need-slice-write-words Inv-loop μ-loop
 slice-write-words c = omega arith
 
--- src/lib.rt:40:9
 add-i : tie.Need-add-i Inv-loop μ-loop
 add-i c = omega arith
 
--- src/lib.rt:38:5
 loop-less : tie.Need-loop-less Inv-loop μ-loop
 loop-less c = omega arith
 
--- src/lib.rt:38:5
 loop-again : tie.Need-loop-again Inv-loop μ-loop
 loop-again c =
     let l = (c .before .loop) in
     (omega arith, simp length-set (l .inv .1), ap (λ (t : List ℕ). set t (l .i) 0) (l .inv .2) ∙ fill-more (l .i) 0 ((c .before .before .args) .words .now) (omega arith))
 
--- src/lib.rt:34:1
 same-length : tie.Need-same-length Inv-loop μ-loop
 same-length c = omega arith
 
--- src/lib.rt:34:1
 returns : tie.Need-returns Inv-loop μ-loop
 returns c =
     let l = (c .before .loop) in

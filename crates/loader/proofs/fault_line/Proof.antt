@@ -1,6 +1,6 @@
 -- `loader::fault_line` meets its contract. Assumes nothing.
 use Prim.Native.Nat.{ℕ, _-_, _*_, _≤_}
-use mathlib.Core.Path.{_≡_, refl, sym, ap, _∙_}
+use mathlib.Core.Path.{_≡_, _∙_}
 use mathlib.Core.List.{List, []}
 use mathlib.Core.Bool.{not}
 use native.Mathlib.Omega.{arith}
@@ -27,27 +27,21 @@ Inv-loop words modules place₀ m₀ place m =
 abbrev μ-loop : tie.MeasureT-loop
 μ-loop words modules place₀ m₀ place m = modules - m
 
--- src/lib.rt:49:9
 module-count-requires : tie.Need-module-count-requires Inv-loop μ-loop
 module-count-requires c κs = search needs
 
--- src/lib.rt:52:5
 loop-holds : tie.Need-loop-holds Inv-loop μ-loop
 loop-holds c = (omega arith, omega arith, λ file. faults-begun file ((c .before .before .args) .words .now))
 
--- src/lib.rt:53:13
 line-count-requires : tie.Need-line-count-requires Inv-loop μ-loop
 line-count-requires c κs = search needs
 
--- src/lib.rt:54:15
 module-fault-requires : tie.Need-module-fault-requires Inv-loop μ-loop
 module-fault-requires c κs = search needs
 
--- src/lib.rt:55:23
 enum-known-k : tie.Need-enum-known-k Inv-loop μ-loop
 enum-known-k c = search needs
 
--- src/lib.rt:56:34
 add-t10 : tie.Need-add-t10 Inv-loop μ-loop
 add-t10 c =
     let ws = (c .before .before .before .before .before .before .before .before .before .args) .words .now in
@@ -58,7 +52,6 @@ add-t10 c =
     let count = (c .before .before .before .before .line-count) .ensures in
     omega (arith, is, few, below, count .counts [], count .bounded, l .inv .1, (c .before .before .before .before .before .loop-test) .taken)
 
--- src/lib.rt:56:34
 add-t11 : tie.Need-add-t11 Inv-loop μ-loop
 add-t11 c =
     let ws = (c .before .before .before .before .before .before .before .before .before .args) .words .now in
@@ -69,7 +62,6 @@ add-t11 c =
     let count = (c .before .before .before .before .line-count) .ensures in
     omega (arith, is, few, below, count .counts [], count .bounded, l .inv .1, (c .before .before .before .before .before .loop-test) .taken)
 
--- src/lib.rt:56:17
 returns : tie.Need-returns Inv-loop μ-loop
 returns c =
     let ws = (c .before .before .before .before .before .before .before .before .before .args) .words .now in
@@ -77,11 +69,9 @@ returns c =
     let is = (c .before .before .before .before .before .before .before .module-count) .ensures [] ∙ modules-are [] ws in
     (λ file. fault-found file ws (l .place) (l .m) (l .inv .2 file) ((c .before .k) .given .0 .0) (module-hit file ws (l .place) (l .m) (omega (arith, is, (c .before .before .before .before .before .loop-test) .taken)) ((c .before .before .before .module-fault) .result) ((c .before .before .before .module-fault) .ensures file) ((c .before .k) .given .0 .0) ((c .before .k) .given .1)))
 
--- src/lib.rt:59:17
 enum-told : tie.Need-enum-told Inv-loop μ-loop
 enum-told c = search needs
 
--- src/lib.rt:59:17
 add-place : tie.Need-add-place Inv-loop μ-loop
 add-place c =
     let ws = (c .before .before .before .before .before .before .before .before .args) .words .now in
@@ -90,15 +80,12 @@ add-place c =
     let few = (c .before .before .before .before .before .before .before .before .pre) in
     omega (arith, is, few, (c .before .before .before .line-count) .ensures .bounded, l .inv .1, (c .before .before .before .before .loop-test) .taken)
 
--- src/lib.rt:62:9
 add-m : tie.Need-add-m Inv-loop μ-loop
 add-m c = omega (arith, (c .before .before .before .before .loop-test) .taken)
 
--- src/lib.rt:52:5
 loop-less : tie.Need-loop-less Inv-loop μ-loop
 loop-less c = omega arith
 
--- src/lib.rt:52:5
 loop-again : tie.Need-loop-again Inv-loop μ-loop
 loop-again c =
     let ws = (c .before .before .before .before .before .before .before .before .args) .words .now in
@@ -106,15 +93,12 @@ loop-again c =
     let is = (c .before .before .before .before .before .before .module-count) .ensures [] ∙ modules-are [] ws in
     (omega (arith, (c .before .before .before .before .loop-test) .taken), omega (arith, l .inv .1, (c .before .before .before .line-count) .ensures .bounded), λ file. l .inv .2 file ∙ module-miss file ws (l .place) (l .m) (omega (arith, is, (c .before .before .before .before .loop-test) .taken)) ((c .before .before .module-fault) .result) ((c .before .before .module-fault) .ensures file) ((c .before .before .before .line-count) .result) ((c .before .before .before .line-count) .ensures .counts file) ((c .enum-told) .given .1))
 
--- src/lib.rt:64:11
 question-fault-requires : tie.Need-question-fault-requires Inv-loop μ-loop
 question-fault-requires c κs = search needs
 
--- src/lib.rt:65:19
 enum-known-k-2 : tie.Need-enum-known-k-2 Inv-loop μ-loop
 enum-known-k-2 c = search needs
 
--- src/lib.rt:65:35
 add-t14 : tie.Need-add-t14 Inv-loop μ-loop
 add-t14 c =
     let ws = (c .before .before .before .before .before .before .before .before .args) .words .now in
@@ -125,7 +109,6 @@ add-t14 c =
     let fits-word = (c .before .before .before .before .before .before .before .shared-slice-known) .given 1 in
     omega (arith, is, few, below, fits-word, l .inv .0, l .inv .1)
 
--- src/lib.rt:65:35
 add-t15 : tie.Need-add-t15 Inv-loop μ-loop
 add-t15 c =
     let ws = (c .before .before .before .before .before .before .before .before .args) .words .now in
@@ -136,11 +119,9 @@ add-t15 c =
     let fits-word = (c .before .before .before .before .before .before .before .shared-slice-known) .given 1 in
     omega (arith, is, few, below, fits-word, l .inv .0, l .inv .1)
 
--- src/lib.rt:66:27
 enum-told-2 : tie.Need-enum-told-2 Inv-loop μ-loop
 enum-told-2 c = search needs
 
--- src/lib.rt:45:1
 returns-2 : tie.Need-returns-2 Inv-loop μ-loop
 returns-2 c =
     let ws = (c .before .before .before .before .before .before .before .before .args) .words .now in
@@ -148,7 +129,6 @@ returns-2 c =
     let is = (c .before .before .before .before .before .before .module-count) .ensures [] ∙ modules-are [] ws in
     (λ file. fault-found file ws (l .place) (l .m) (l .inv .2 file) ((c .before .k2) .given .0 .0) (question-hit file ws (l .place) (l .m) (omega (arith, is, (c .before .before .before .before .loop-test) .left)) ((c .before .before .before .question-fault) .result) ((c .before .before .before .question-fault) .ensures file) ((c .before .k2) .given .0 .0) ((c .before .k2) .given .1)))
 
--- src/lib.rt:45:1
 returns-3 : tie.Need-returns-3 Inv-loop μ-loop
 returns-3 c =
     let ws = (c .before .before .before .before .before .before .before .args) .words .now in

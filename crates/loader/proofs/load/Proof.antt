@@ -1,7 +1,7 @@
 -- `loader::load` meets its contract. Assumes nothing.
-use mathlib.Core.Path.{_≡_, refl}
+use mathlib.Core.Path.{refl}
 use native.Mathlib.Omega.{arith}
-use lib.ListN.{length, length-take}
+use lib.ListN.{length-take}
 use Rattle.loader.proofs.Loading.{filled}
 use borrow.Author.Needs.{needs}
 use Rattle.loader.proofs.load.Statement.{statement}
@@ -10,27 +10,21 @@ use Rattle.loader.proofs.load.Reads as reads
 use Rattle.loader.proofs.load.Lts as lts
 use Rattle.loader.proofs.load_words.Reads as load-words-reads
 
--- src/lib.rt:109:9
 returns : tie.Need-returns
 returns c = ((λ h. record { is = refl; same = refl }), (λ h. absurd (omega arith)))
 
--- src/lib.rt:111:22
 slice-relend-prefix-load-words : tie.Need-slice-relend-prefix-load-words
 slice-relend-prefix-load-words c = search needs
 
--- src/lib.rt:111:22
 slice-aggregate-load-words : tie.Need-slice-aggregate-load-words
 slice-aggregate-load-words c = omega (arith, length-take 16384 ((c .before .before .before .before .args) .records .now))
 
--- src/lib.rt:111:5
 load-words-requires : tie.Need-load-words-requires
 load-words-requires c κs = omega (arith, length-take 16384 ((c .before .before .before .before .args) .records .now))
 
--- src/lib.rt:104:1
 same-length : tie.Need-same-length
 same-length c = search needs
 
--- src/lib.rt:104:1
 returns-2 : tie.Need-returns-2
 returns-2 c =
     let a = (c .before .before .before .before .before .before .before .args) in

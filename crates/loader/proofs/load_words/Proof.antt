@@ -1,5 +1,5 @@
 -- `loader::load_words` meets its contract. Assumes nothing.
-use mathlib.Core.Path.{sym, ap, subst, _∙_}
+use mathlib.Core.Path.{ap, subst, _∙_}
 use lib.ListN.{length, replicate}
 use Rattle.loader.specs.Load.{FilePut}
 use Rattle.loader.proofs.Loading.{zeros-long}
@@ -11,46 +11,38 @@ use Rattle.loader.proofs.load_words.Lts as lts
 use Rattle.loader.proofs.clear.Reads as clear-reads
 use Rattle.loader.proofs.read_file.Reads as read-file-reads
 
--- src/lib.rt:93:11
 read-file-requires : tie.Need-read-file-requires
 read-file-requires c κs = search needs
 
--- src/lib.rt:94:29
 enum-told : tie.Need-enum-told
 enum-told c = search needs
 
--- src/lib.rt:95:25
 enum-known-number : tie.Need-enum-known-number
 enum-known-number c = search needs
 
--- src/lib.rt:96:13
 clear-requires : tie.Need-clear-requires
 clear-requires c κs = search needs
 
--- src/lib.rt:89:1
 same-length : tie.Need-same-length
 same-length c = search needs
 
--- src/lib.rt:89:1
 returns : tie.Need-returns
 returns c =
     let a = (c .before .before .before .before .before .before .before .before .args) in
     let s = a .file .now in
     let put = subst (FilePut s ((c .before .before .before .before .read-file) .last .1 .0)) ((c .enum-told) .given .1) ((c .before .before .before .before .read-file) .ensures) in
-    record { long = put .long; is = put .is; items = put .items; cleared = tt }
+    record { put = put; cleared = tt }
 
--- src/lib.rt:89:1
 same-length-2 : tie.Need-same-length-2
 same-length-2 c = search needs
 
--- src/lib.rt:89:1
 returns-2 : tie.Need-returns-2
 returns-2 c =
     let a = (c .before .before .before .before .before .before .before .before .before .before .before .before .before .args) in
     let s = a .file .now in
     let put = subst (FilePut s ((c .before .before .before .before .before .before .before .before .before .read-file) .last .1 .0)) ((c .before .before .before .before .before .number) .given .1) ((c .before .before .before .before .before .before .before .before .before .read-file) .ensures) in
     let zero = (c .before .before .clear) .ensures ∙ ap (λ k. replicate k 0) (put .long) in
-    record { long = ap length zero ∙ zeros-long; is = put .is; items = tt; cleared = zero }
+    record { put = record { long = ap length zero ∙ zeros-long; is = put .is; items = tt }; cleared = zero }
 
 pub load-words-spec : {M : Type 1} → statement M
 load-words-spec =

@@ -16,59 +16,48 @@ use Rattle.loader.proofs.fault_line.Reads as fault-line-reads
 use Rattle.loader.proofs.pass.first_pass.Reads as first-pass-reads
 use Rattle.words.proofs.version_of.Reads as version-of-reads
 
--- src/lib.rt:75:9
 returns : tie.Need-returns
 returns c =
     let a = (c .before .before .before .args) in
     let s = a .file .now in
     record { long = (c .before .before .before .pre); is = too-long s ((c .if1) .taken); items = tt }
 
--- src/lib.rt:77:32
 version-of-requires : tie.Need-version-of-requires
 version-of-requires c κs = search needs
 
--- src/lib.rt:77:21
 enum-known-version : tie.Need-enum-known-version
 enum-known-version c = search needs
 
--- src/lib.rt:78:9
 enum-told : tie.Need-enum-told
 enum-told c = search needs
 
--- src/lib.rt:78:9
 returns-2 : tie.Need-returns-2
 returns-2 c =
     let a = (c .before .before .before .before .before .before .args) in
     let s = a .file .now in
     record { long = (c .before .before .before .before .before .before .pre); is = no-version s (omega (arith, (c .before .before .before .if1) .left)) (sym ((c .before .before .version-of) .ensures) ∙ ap version-is ((c .enum-told) .given .1)); items = tt }
 
--- src/lib.rt:80:11
 first-pass-requires : tie.Need-first-pass-requires
 first-pass-requires c κs =
     let a = (c .before .before .before .before .before .before .before .before .args) in
     let s = a .file .now in
     ((omega (arith, (c .before .before .before .before .before .if1) .left)), (c .before .before .before .before .before .before .before .before .pre), version-long s ((c .before .before .version) .given .0 .0) (sym ((c .before .before .before .before .version-of) .ensures) ∙ ap version-is ((c .before .before .version) .given .1)))
 
--- src/lib.rt:81:22
 enum-known-number : tie.Need-enum-known-number
 enum-known-number c = search needs
 
--- src/lib.rt:82:41
 enum-told-2 : tie.Need-enum-told-2
 enum-told-2 c = search needs
 
--- src/lib.rt:82:30
 fault-line-requires : tie.Need-fault-line-requires
 fault-line-requires c κs =
     let a = (c .before .before .before .before .before .before .before .before .before .before .before .before .before .before .args) in
     let s = a .file .now in
     ((subst (FirstIs s ((c .before .before .before .before .before .first-pass) .last .1 .0) ((c .before .before .before .before .before .before .before .before .version) .given .0 .0) (drop 8 s)) ((c .before .enum-told2) .given .1) ((c .before .before .before .before .before .first-pass) .ensures .first))) .few-modules
 
--- src/lib.rt:83:23
 enum-known-line : tie.Need-enum-known-line
 enum-known-line c = search needs
 
--- src/lib.rt:83:51
 cast-t18 : tie.Need-cast-t18
 cast-t18 c =
     let a = (c .before .before .before .before .before .before .before .before .before .before .before .before .before .before .before .before .before .before .args) in
@@ -77,26 +66,21 @@ cast-t18 c =
     let small = fault-small (index-of s ((c .before .before .before .before .before .before .before .before .before .first-pass) .last .1 .0)) ((c .before .line) .given .0 .0) (sym (ap fault-of ((c .before .line) .given .1)) ∙ (c .before .before .before .fault-line) .ensures s) in
     omega (arith, small, all .few-lines)
 
--- src/lib.rt:84:31
 enum-told-3 : tie.Need-enum-told-3
 enum-told-3 c = search needs
 
--- src/lib.rt:70:1
 same-length : tie.Need-same-length
 same-length c = search needs
 
--- src/lib.rt:70:1
 returns-3 : tie.Need-returns-3
 returns-3 c =
     let a = (c .before .before .before .before .before .before .before .before .before .before .before .before .before .before .args) in
     let s = a .file .now in
     record { long = (c .before .before .before .before .before .first-pass) .ensures .long ∙ (c .before .before .before .before .before .before .before .before .before .before .before .before .before .before .pre); is = lines-wrong s (omega (arith, (c .before .before .before .before .before .before .before .before .before .before .before .if1) .left)) ((c .before .before .before .before .before .before .before .before .version) .given .0 .0) (sym ((c .before .before .before .before .before .before .before .before .before .before .version-of) .ensures) ∙ ap version-is ((c .before .before .before .before .before .before .before .before .version) .given .1)) _ _ (subst (FirstIs s ((c .before .before .before .before .before .first-pass) .last .1 .0) ((c .before .before .before .before .before .before .before .before .version) .given .0 .0) (drop 8 s)) ((c .before .number) .given .1) ((c .before .before .before .before .before .first-pass) .ensures .first)); items = tt }
 
--- src/lib.rt:70:1
 same-length-2 : tie.Need-same-length-2
 same-length-2 c = search needs
 
--- src/lib.rt:70:1
 returns-4 : tie.Need-returns-4
 returns-4 c =
     let a = (c .before .before .before .before .before .before .before .before .before .before .before .before .before .before .before .before .before .before .args) in
@@ -104,11 +88,9 @@ returns-4 c =
     let all = (subst (FirstIs s ((c .before .before .before .before .before .before .before .before .before .first-pass) .last .1 .0) ((c .before .before .before .before .before .before .before .before .before .before .before .before .version) .given .0 .0) (drop 8 s)) ((c .before .before .before .before .before .enum-told2) .given .1) ((c .before .before .before .before .before .before .before .before .before .first-pass) .ensures .first)) in
     record { long = (c .before .before .before .before .before .before .before .before .before .first-pass) .ensures .long ∙ (c .before .before .before .before .before .before .before .before .before .before .before .before .before .before .before .before .before .before .pre); is = links-fault s (omega (arith, (c .before .before .before .before .before .before .before .before .before .before .before .before .before .before .before .if1) .left)) ((c .before .before .before .before .before .before .before .before .before .before .before .before .version) .given .0 .0) (sym ((c .before .before .before .before .before .before .before .before .before .before .before .before .before .before .version-of) .ensures) ∙ ap version-is ((c .before .before .before .before .before .before .before .before .before .before .before .before .version) .given .1)) (index-of s ((c .before .before .before .before .before .before .before .before .before .first-pass) .last .1 .0)) (all .is) _ (sym (ap fault-of ((c .before .line) .given .1)) ∙ (c .before .before .before .fault-line) .ensures s); items = tt }
 
--- src/lib.rt:70:1
 same-length-3 : tie.Need-same-length-3
 same-length-3 c = search needs
 
--- src/lib.rt:70:1
 returns-5 : tie.Need-returns-5
 returns-5 c =
     let a = (c .before .before .before .before .before .before .before .before .before .before .before .before .before .before .before .before .before .args) in

@@ -13,33 +13,26 @@ use Rattle.words.proofs.definition_word.Lts as lts
 use Rattle.words.proofs.definition_word_at.Reads as definition-word-at-reads
 use Rattle.words.proofs.find_word.Reads as find-word-reads
 
--- src/lib.rt:177:28
 slice-aggregate-find-word : tie.Need-slice-aggregate-find-word
 slice-aggregate-find-word c = search needs
 
--- src/lib.rt:177:11
 find-word-requires : tie.Need-find-word-requires
 find-word-requires c κs = search needs
 
--- src/lib.rt:178:19
 enum-known-k : tie.Need-enum-known-k
 enum-known-k c = search needs
 
--- src/lib.rt:178:25
 definition-word-at-requires : tie.Need-definition-word-at-requires
 definition-word-at-requires c κs = search needs
 
--- src/lib.rt:179:27
 enum-told : tie.Need-enum-told
 enum-told c = search needs
 
--- src/lib.rt:174:1
 returns : tie.Need-returns
 unfolding maps-from eq-numbers definition-word-of
 returns c =
     word-found definition-words DefinitionWord.Other _ _ _ _ (c .before .before .before .before .find-word .ensures) refl _ _ (c .before .before .k .given .1) (c .definition-word-at .ensures)
 
--- src/lib.rt:174:1
 returns-2 : tie.Need-returns-2
 unfolding maps-from eq-numbers definition-word-of
 returns-2 c = word-missing definition-words DefinitionWord.Other _ _ _ _ (c .before .before .find-word .ensures) refl (c .enum-told .given .1)

@@ -12,46 +12,36 @@ use Rattle.words.proofs.hash.Reads as hash-reads
 use Rattle.words.proofs.same_word.Reads as same-word-reads
 use Rattle.words.proofs.wide.Reads as wide-reads
 
--- src/lib.rt:101:9
 hash-requires : tie.Need-hash-requires
 hash-requires c κs = search needs
 
--- src/lib.rt:102:18
 element-copy-out-wide : tie.Need-element-copy-out-wide
 element-copy-out-wide c = omega (arith, hash-below (c .before .before .before .args .field .now), c .hash .ensures)
 
--- src/lib.rt:102:9
 wide-requires : tie.Need-wide-requires
 wide-requires c κs = search needs
 
--- src/lib.rt:103:14
 mul-at : tie.Need-mul-at
 mul-at c = search needs
 
--- src/lib.rt:105:9
 returns : tie.Need-returns
 returns c =
     let p = c .before in
     let a = p .before .before .before .before .before .args in
     place-out (a .field .now) (a .table .now) (a .map .now) _ _ (p .before .before .hash .ensures) (p .wide .ensures .0) (c .if1 .taken)
 
--- src/lib.rt:107:18
 shared-slice-read-wide : tie.Need-shared-slice-read-wide
 shared-slice-read-wide c = search needs
 
--- src/lib.rt:107:9
 wide-requires-2 : tie.Need-wide-requires-2
 wide-requires-2 c κs = search needs
 
--- src/lib.rt:108:16
 add-from : tie.Need-add-from
 add-from c = search needs
 
--- src/lib.rt:109:8
 sub-if2 : tie.Need-sub-if2
 sub-if2 c = search needs
 
--- src/lib.rt:110:9
 returns-2 : tie.Need-returns-2
 returns-2 c =
     let p = c .before .before .before .before in
@@ -59,11 +49,9 @@ returns-2 c =
     let w = c .before .wide2 in
     place-cut (a .field .now) (a .table .now) (a .map .now) _ _ (p .before .before .hash .ensures) (p .wide .ensures .0) _ (w .ensures .0) (omega arith) (c .if2 .taken)
 
--- src/lib.rt:112:8
 same-word-requires : tie.Need-same-word-requires
 same-word-requires c κs = search needs
 
--- src/lib.rt:113:9
 returns-3 : tie.Need-returns-3
 returns-3 c =
     let p = c .before .before .before .before .before .before in
@@ -72,7 +60,6 @@ returns-3 c =
     place-same (a .field .now) (a .table .now) (a .map .now) _ _ (p .before .before .hash .ensures) (p .wide .ensures .0) _ (w .ensures .0) (omega arith) (c .before .before .if2 .left) true
     (sym (c .if3 .taken) ∙ c .before .same-word .ensures)
 
--- src/lib.rt:98:1
 returns-4 : tie.Need-returns-4
 returns-4 c =
     let p = c .before .before .before .before .before .before in

@@ -9,47 +9,36 @@ use Rattle.words.proofs.hash.Reads as reads
 use Rattle.words.proofs.hash.Lts as lts
 use Rattle.words.proofs.wide.Reads as wide-reads
 
--- src/lib.rt:90:9
 returns : tie.Need-returns
 returns c = hash-empty (c .before .before .args .field .now) (c .if1 .taken)
 
--- src/lib.rt:92:22
 shared-slice-read-wide : tie.Need-shared-slice-read-wide
 shared-slice-read-wide c = search needs
 
--- src/lib.rt:92:9
 wide-requires : tie.Need-wide-requires
 wide-requires c κs = search needs
 
--- src/lib.rt:93:21
 shared-slice-read-wide-2 : tie.Need-shared-slice-read-wide-2
 shared-slice-read-wide-2 c = search needs
 
--- src/lib.rt:93:9
 wide-requires-2 : tie.Need-wide-requires-2
 wide-requires-2 c κs = search needs
 
--- src/lib.rt:94:6
 mul-result : tie.Need-mul-result
 mul-result c = search needs
 
--- src/lib.rt:94:19
 mul-result-2 : tie.Need-mul-result-2
 mul-result-2 c = search needs
 
--- src/lib.rt:94:6
 add-result : tie.Need-add-result
 add-result c = search needs
 
--- src/lib.rt:94:31
 mul-result-3 : tie.Need-mul-result-3
 mul-result-3 c = search needs
 
--- src/lib.rt:94:6
 add-result-2 : tie.Need-add-result-2
 add-result-2 c = search needs
 
--- src/lib.rt:85:1
 returns-2 : tie.Need-returns-2
 returns-2 c =
     let n = length (c .before .before .before .before .before .before .args .field .now) in

@@ -13,33 +13,26 @@ use Rattle.words.proofs.node_word.Lts as lts
 use Rattle.words.proofs.find_word.Reads as find-word-reads
 use Rattle.words.proofs.node_word_at.Reads as node-word-at-reads
 
--- src/lib.rt:233:28
 slice-aggregate-find-word : tie.Need-slice-aggregate-find-word
 slice-aggregate-find-word c = search needs
 
--- src/lib.rt:233:11
 find-word-requires : tie.Need-find-word-requires
 find-word-requires c κs = search needs
 
--- src/lib.rt:234:19
 enum-known-k : tie.Need-enum-known-k
 enum-known-k c = search needs
 
--- src/lib.rt:234:25
 node-word-at-requires : tie.Need-node-word-at-requires
 node-word-at-requires c κs = search needs
 
--- src/lib.rt:235:27
 enum-told : tie.Need-enum-told
 enum-told c = search needs
 
--- src/lib.rt:230:1
 returns : tie.Need-returns
 unfolding maps-from eq-numbers node-word-of
 returns c =
     word-found node-words NodeWord.Other _ _ _ _ (c .before .before .before .before .find-word .ensures) refl _ _ (c .before .before .k .given .1) (c .node-word-at .ensures)
 
--- src/lib.rt:230:1
 returns-2 : tie.Need-returns-2
 unfolding maps-from eq-numbers node-word-of
 returns-2 c = word-missing node-words NodeWord.Other _ _ _ _ (c .before .before .find-word .ensures) refl (c .enum-told .given .1)

@@ -7,87 +7,70 @@ use Rattle.words.proofs.node_word_at.Tie as tie
 use Rattle.words.proofs.node_word_at.Reads as reads
 use Rattle.words.proofs.node_word_at.Lts as lts
 
--- src/lib.rt:206:1
 returns : tie.Need-returns
 unfolding word-at
 returns c = word-key node-words NodeWord.Other _ 0 (c .match .keys1)
 
--- src/lib.rt:206:1
 returns-2 : tie.Need-returns-2
 unfolding word-at
 returns-2 c = word-key node-words NodeWord.Other _ 1 (c .match .keys2)
 
--- src/lib.rt:206:1
 returns-3 : tie.Need-returns-3
 unfolding word-at
 returns-3 c = word-key node-words NodeWord.Other _ 2 (c .match .keys3)
 
--- src/lib.rt:206:1
 returns-4 : tie.Need-returns-4
 unfolding word-at
 returns-4 c = word-key node-words NodeWord.Other _ 3 (c .match .keys4)
 
--- src/lib.rt:206:1
 returns-5 : tie.Need-returns-5
 unfolding word-at
 returns-5 c = word-key node-words NodeWord.Other _ 4 (c .match .keys5)
 
--- src/lib.rt:206:1
 returns-6 : tie.Need-returns-6
 unfolding word-at
 returns-6 c = word-key node-words NodeWord.Other _ 5 (c .match .keys6)
 
--- src/lib.rt:206:1
 returns-7 : tie.Need-returns-7
 unfolding word-at
 returns-7 c = word-key node-words NodeWord.Other _ 6 (c .match .keys7)
 
--- src/lib.rt:206:1
 returns-8 : tie.Need-returns-8
 unfolding word-at
 returns-8 c = word-key node-words NodeWord.Other _ 7 (c .match .keys8)
 
--- src/lib.rt:206:1
 returns-9 : tie.Need-returns-9
 unfolding word-at
 returns-9 c = word-key node-words NodeWord.Other _ 8 (c .match .keys9)
 
--- src/lib.rt:206:1
 returns-10 : tie.Need-returns-10
 unfolding word-at
 returns-10 c = word-key node-words NodeWord.Other _ 9 (c .match .keys10)
 
--- src/lib.rt:206:1
 returns-11 : tie.Need-returns-11
 unfolding word-at
 returns-11 c = word-key node-words NodeWord.Other _ 10 (c .match .keys11)
 
--- src/lib.rt:206:1
 returns-12 : tie.Need-returns-12
 unfolding word-at
 returns-12 c = word-key node-words NodeWord.Other _ 11 (c .match .keys12)
 
--- src/lib.rt:206:1
 returns-13 : tie.Need-returns-13
 unfolding word-at
 returns-13 c = word-key node-words NodeWord.Other _ 12 (c .match .keys13)
 
--- src/lib.rt:206:1
 returns-14 : tie.Need-returns-14
 unfolding word-at
 returns-14 c = word-key node-words NodeWord.Other _ 13 (c .match .keys14)
 
--- src/lib.rt:206:1
 returns-15 : tie.Need-returns-15
 unfolding word-at
 returns-15 c = word-key node-words NodeWord.Other _ 14 (c .match .keys15)
 
--- src/lib.rt:206:1
 returns-16 : tie.Need-returns-16
 unfolding word-at
 returns-16 c = word-key node-words NodeWord.Other _ 15 (c .match .keys16)
 
--- src/lib.rt:206:1
 returns-17 : tie.Need-returns-17
 returns-17 c = word-rest node-words NodeWord.Other (c .before .args .k) (none-below 16 (c .before .args .k) (c .match .rest))
 

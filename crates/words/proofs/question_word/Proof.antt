@@ -13,33 +13,26 @@ use Rattle.words.proofs.question_word.Lts as lts
 use Rattle.words.proofs.find_word.Reads as find-word-reads
 use Rattle.words.proofs.question_word_at.Reads as question-word-at-reads
 
--- src/lib.rt:253:28
 slice-aggregate-find-word : tie.Need-slice-aggregate-find-word
 slice-aggregate-find-word c = search needs
 
--- src/lib.rt:253:11
 find-word-requires : tie.Need-find-word-requires
 find-word-requires c κs = search needs
 
--- src/lib.rt:254:19
 enum-known-k : tie.Need-enum-known-k
 enum-known-k c = search needs
 
--- src/lib.rt:254:25
 question-word-at-requires : tie.Need-question-word-at-requires
 question-word-at-requires c κs = search needs
 
--- src/lib.rt:255:27
 enum-told : tie.Need-enum-told
 enum-told c = search needs
 
--- src/lib.rt:250:1
 returns : tie.Need-returns
 unfolding maps-from eq-numbers question-word-of
 returns c =
     word-found question-words QuestionWord.Other _ _ _ _ (c .before .before .before .before .find-word .ensures) refl _ _ (c .before .before .k .given .1) (c .question-word-at .ensures)
 
--- src/lib.rt:250:1
 returns-2 : tie.Need-returns-2
 unfolding maps-from eq-numbers question-word-of
 returns-2 c = word-missing question-words QuestionWord.Other _ _ _ _ (c .before .before .find-word .ensures) refl (c .enum-told .given .1)

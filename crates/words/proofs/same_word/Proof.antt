@@ -19,7 +19,6 @@ Inv-loop word table at n i₀ j₀ i j =
 abbrev μ-loop : tie.MeasureT-loop
 μ-loop word table at n i₀ j₀ i j = length word - i
 
--- src/lib.rt:39:9
 returns : tie.Need-returns Inv-loop μ-loop
 returns c =
     let a = c .before .args in
@@ -27,21 +26,17 @@ returns c =
     let t = a .table .now in
     sym (other-length w (take (a .n) (drop (a .at) t)) (λ e. c .if1 .taken (e ∙ length-take-le (a .n) (drop (a .at) t) (omega (arith, c .before .pre, length-drop (a .at) t)))))
 
--- src/lib.rt:43:5
 loop-holds : tie.Need-loop-holds Inv-loop μ-loop
 loop-holds c =
     let a = c .before .args in
     (omega (arith, c .before .pre), omega arith, ap (λ n. eq-numbers (a .word .now) (take n (drop (a .at) (a .table .now)))) (sym (c .if1 .left)) ∙ same-begin (a .word .now) (a .table .now) (a .at))
 
--- src/lib.rt:44:12
 shared-slice-read-if2 : tie.Need-shared-slice-read-if2 Inv-loop μ-loop
 shared-slice-read-if2 c = omega arith
 
--- src/lib.rt:44:23
 shared-slice-read-if2-2 : tie.Need-shared-slice-read-if2-2 Inv-loop μ-loop
 shared-slice-read-if2-2 c = omega arith
 
--- src/lib.rt:45:13
 returns-2 : tie.Need-returns-2 Inv-loop μ-loop
 returns-2 c =
     let l = c .before .before .before .before in
@@ -49,19 +44,15 @@ returns-2 c =
     let t = l .before .before .args .table .now in
     sym (l .loop .inv .2 ∙ same-other w t (l .loop .i) (l .loop .j) (omega arith) (omega arith) (c .if2 .taken))
 
--- src/lib.rt:47:9
 add-i : tie.Need-add-i Inv-loop μ-loop
 add-i c = omega arith
 
--- src/lib.rt:48:9
 add-j : tie.Need-add-j Inv-loop μ-loop
 add-j c = omega arith
 
--- src/lib.rt:43:5
 loop-less : tie.Need-loop-less Inv-loop μ-loop
 loop-less c = omega arith
 
--- src/lib.rt:43:5
 loop-again : tie.Need-loop-again Inv-loop μ-loop
 loop-again c =
     let l = c .before .before .before .before in
@@ -69,7 +60,6 @@ loop-again c =
     let t = l .before .before .args .table .now in
     (l .loop .inv .0, omega arith, l .loop .inv .2 ∙ same-more w t (l .loop .i) (l .loop .j) (omega arith) (omega arith) (c .if2 .left))
 
--- src/lib.rt:34:1
 returns-3 : tie.Need-returns-3 Inv-loop μ-loop
 returns-3 c =
     let l = c .before in

@@ -7,27 +7,22 @@ use Rattle.words.proofs.scope_word_at.Tie as tie
 use Rattle.words.proofs.scope_word_at.Reads as reads
 use Rattle.words.proofs.scope_word_at.Lts as lts
 
--- src/lib.rt:114:1
 returns : tie.Need-returns
 unfolding word-at
 returns c = word-key scope-words ScopeWord.Other _ 0 (c .match .keys1)
 
--- src/lib.rt:114:1
 returns-2 : tie.Need-returns-2
 unfolding word-at
 returns-2 c = word-key scope-words ScopeWord.Other _ 1 (c .match .keys2)
 
--- src/lib.rt:114:1
 returns-3 : tie.Need-returns-3
 unfolding word-at
 returns-3 c = word-key scope-words ScopeWord.Other _ 2 (c .match .keys3)
 
--- src/lib.rt:114:1
 returns-4 : tie.Need-returns-4
 unfolding word-at
 returns-4 c = word-key scope-words ScopeWord.Other _ 3 (c .match .keys4)
 
--- src/lib.rt:114:1
 returns-5 : tie.Need-returns-5
 returns-5 c = word-rest scope-words ScopeWord.Other (c .before .args .k) (none-below 4 (c .before .args .k) (c .match .rest))
 

@@ -13,33 +13,26 @@ use Rattle.words.proofs.type_word.Lts as lts
 use Rattle.words.proofs.find_word.Reads as find-word-reads
 use Rattle.words.proofs.type_word_at.Reads as type-word-at-reads
 
--- src/lib.rt:153:28
 slice-aggregate-find-word : tie.Need-slice-aggregate-find-word
 slice-aggregate-find-word c = search needs
 
--- src/lib.rt:153:11
 find-word-requires : tie.Need-find-word-requires
 find-word-requires c κs = search needs
 
--- src/lib.rt:154:19
 enum-known-k : tie.Need-enum-known-k
 enum-known-k c = search needs
 
--- src/lib.rt:154:25
 type-word-at-requires : tie.Need-type-word-at-requires
 type-word-at-requires c κs = search needs
 
--- src/lib.rt:155:27
 enum-told : tie.Need-enum-told
 enum-told c = search needs
 
--- src/lib.rt:150:1
 returns : tie.Need-returns
 unfolding maps-from eq-numbers type-word-of
 returns c =
     word-found type-words TypeWord.Other _ _ _ _ (c .before .before .before .before .find-word .ensures) refl _ _ (c .before .before .k .given .1) (c .type-word-at .ensures)
 
--- src/lib.rt:150:1
 returns-2 : tie.Need-returns-2
 unfolding maps-from eq-numbers type-word-of
 returns-2 c = word-missing type-words TypeWord.Other _ _ _ _ (c .before .before .find-word .ensures) refl (c .enum-told .given .1)

@@ -7,42 +7,34 @@ use Rattle.words.proofs.type_word_at.Tie as tie
 use Rattle.words.proofs.type_word_at.Reads as reads
 use Rattle.words.proofs.type_word_at.Lts as lts
 
--- src/lib.rt:135:1
 returns : tie.Need-returns
 unfolding word-at
 returns c = word-key type-words TypeWord.Other _ 0 (c .match .keys1)
 
--- src/lib.rt:135:1
 returns-2 : tie.Need-returns-2
 unfolding word-at
 returns-2 c = word-key type-words TypeWord.Other _ 1 (c .match .keys2)
 
--- src/lib.rt:135:1
 returns-3 : tie.Need-returns-3
 unfolding word-at
 returns-3 c = word-key type-words TypeWord.Other _ 2 (c .match .keys3)
 
--- src/lib.rt:135:1
 returns-4 : tie.Need-returns-4
 unfolding word-at
 returns-4 c = word-key type-words TypeWord.Other _ 3 (c .match .keys4)
 
--- src/lib.rt:135:1
 returns-5 : tie.Need-returns-5
 unfolding word-at
 returns-5 c = word-key type-words TypeWord.Other _ 4 (c .match .keys5)
 
--- src/lib.rt:135:1
 returns-6 : tie.Need-returns-6
 unfolding word-at
 returns-6 c = word-key type-words TypeWord.Other _ 5 (c .match .keys6)
 
--- src/lib.rt:135:1
 returns-7 : tie.Need-returns-7
 unfolding word-at
 returns-7 c = word-key type-words TypeWord.Other _ 6 (c .match .keys7)
 
--- src/lib.rt:135:1
 returns-8 : tie.Need-returns-8
 returns-8 c = word-rest type-words TypeWord.Other (c .before .args .k) (none-below 7 (c .before .args .k) (c .match .rest))
 

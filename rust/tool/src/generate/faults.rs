@@ -226,7 +226,7 @@ fn limit(random: &mut Random, bytes: Vec<u8>) -> Vec<u8> {
     lines.concat()
 }
 
-/// The file with questions and then a longer name behind it, so that it has so many bytes.
+/// The file with questions behind it, the last one cut off, so that it has so many bytes.
 fn padded(mut bytes: Vec<u8>, length: usize) -> Vec<u8> {
     while bytes.len() < length {
         let left = length - bytes.len();
@@ -352,7 +352,7 @@ fn field(random: &mut Random, bytes: Vec<u8>) -> Vec<u8> {
             let (others, _) = self::fields(&lines[other]);
             fields[at] = random.pick(&others).clone();
         }
-        // Names of 64 and 65 bytes.
+        // Names of 63 to 65 bytes.
         4 => fields[at] = vec![b'n'; 63 + random.below(3)],
         _ => fields[at] = random.pick(NUMBERS).as_bytes().to_vec(),
     }

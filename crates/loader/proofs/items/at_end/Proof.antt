@@ -7,15 +7,12 @@ use Rattle.loader.proofs.items.at_end.Tie as tie
 use Rattle.loader.proofs.items.at_end.Reads as reads
 use Rattle.loader.proofs.items.at_end.Lts as lts
 
--- src/items.rt:76:9
 returns : tie.Need-returns
 returns c = end-out ((c .before .args) .file .now) ((c .before .args) .at) ((c .if1) .taken)
 
--- src/items.rt:78:5
 shared-slice-read-result : tie.Need-shared-slice-read-result
 shared-slice-read-result c = search needs
 
--- src/items.rt:72:1
 returns-2 : tie.Need-returns-2
 returns-2 c = end-at ((c .before .before .args) .file .now) ((c .before .before .args) .at) (omega arith)
 

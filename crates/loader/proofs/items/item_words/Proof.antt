@@ -16,23 +16,18 @@ use Rattle.loader.proofs.items.is_named.Reads as is-named-reads
 use Rattle.loader.proofs.items.second_kind.Reads as second-kind-reads
 use Rattle.loader.proofs.values.slot_words.Reads as slot-words-reads
 
--- src/items.rt:85:58
 first-kind-requires : tie.Need-first-kind-requires
 first-kind-requires c κs = search needs
 
--- src/items.rt:85:33
 slot-words-requires : tie.Need-slot-words-requires
 slot-words-requires c κs = search needs
 
--- src/items.rt:85:24
 enum-known-a : tie.Need-enum-known-a
 enum-known-a c = search needs
 
--- src/items.rt:86:9
 enum-told : tie.Need-enum-told
 enum-told c = search needs
 
--- src/items.rt:86:9
 returns : tie.Need-returns
 returns c =
     let a = (c .before .before .before .before .before .args) in
@@ -40,23 +35,18 @@ returns c =
     let l = a .listed in
     sym (no-first l s _ (words-lost s (drop (a .at) s) (first-kind l) ((c .before .before .slot-words) .result) (subst (λ k. slot-words-is k s ((c .before .before .slot-words) .result) ≡ slot k (drop (a .at) s)) ((c .before .before .before .first-kind) .ensures) ((c .before .before .slot-words) .ensures)) ((c .enum-told) .given .1)))
 
--- src/items.rt:88:58
 second-kind-requires : tie.Need-second-kind-requires
 second-kind-requires c κs = search needs
 
--- src/items.rt:88:33
 slot-words-requires-2 : tie.Need-slot-words-requires-2
 slot-words-requires-2 c κs = search needs
 
--- src/items.rt:88:24
 enum-known-b : tie.Need-enum-known-b
 enum-known-b c = search needs
 
--- src/items.rt:89:9
 enum-told-2 : tie.Need-enum-told-2
 enum-told-2 c = search needs
 
--- src/items.rt:89:9
 returns-2 : tie.Need-returns-2
 returns-2 c =
     let a = (c .before .before .before .before .before .before .before .before .before .before .args) in
@@ -64,19 +54,15 @@ returns-2 c =
     let l = a .listed in
     sym (no-second l s _ _ (words-found s (drop (a .at) s) (first-kind l) ((c .before .before .before .before .before .before .before .slot-words) .result) (subst (λ k. slot-words-is k s ((c .before .before .before .before .before .before .before .slot-words) .result) ≡ slot k (drop (a .at) s)) ((c .before .before .before .before .before .before .before .before .first-kind) .ensures) ((c .before .before .before .before .before .before .before .slot-words) .ensures)) ((c .before .before .before .before .before .a) .given .0 .0) ((c .before .before .before .before .before .a) .given .0 .1 .0) ((c .before .before .before .before .before .a) .given .1)) (words-lost s (drop ((c .before .before .before .before .before .a) .given .0 .1 .0) s) (second-kind l) ((c .before .before .slot-words2) .result) (subst (λ k. slot-words-is k s ((c .before .before .slot-words2) .result) ≡ slot k (drop ((c .before .before .before .before .before .a) .given .0 .1 .0) s)) ((c .before .before .before .second-kind) .ensures) ((c .before .before .slot-words2) .ensures)) ((c .enum-told2) .given .1)))
 
--- src/items.rt:91:8
 is-named-requires : tie.Need-is-named-requires
 is-named-requires c κs = search needs
 
--- src/items.rt:92:31
 cast-t13 : tie.Need-cast-t13
 cast-t13 c = search needs
 
--- src/items.rt:92:58
 cast-t15 : tie.Need-cast-t15
 cast-t15 c = search needs
 
--- src/items.rt:92:9
 returns-3 : tie.Need-returns-3
 returns-3 c =
     let a = (c .before .before .before .before .before .before .before .before .before .before .before .before .before .args) in
@@ -84,11 +70,9 @@ returns-3 c =
     let l = a .listed in
     item-with-name l s _ (parts ((c .before .before .before .before .before .before .before .before .a) .given .0 .0)) (parts ((c .before .before .before .b) .given .0 .0)) ((c .before .before .before .before .before .before .before .before .a) .given .0 .1 .0) ((c .before .before .before .b) .given .0 .1 .0) (words-found s (drop (a .at) s) (first-kind l) ((c .before .before .before .before .before .before .before .before .before .before .slot-words) .result) (subst (λ k. slot-words-is k s ((c .before .before .before .before .before .before .before .before .before .before .slot-words) .result) ≡ slot k (drop (a .at) s)) ((c .before .before .before .before .before .before .before .before .before .before .before .first-kind) .ensures) ((c .before .before .before .before .before .before .before .before .before .before .slot-words) .ensures)) ((c .before .before .before .before .before .before .before .before .a) .given .0 .0) ((c .before .before .before .before .before .before .before .before .a) .given .0 .1 .0) ((c .before .before .before .before .before .before .before .before .a) .given .1)) (words-found s (drop ((c .before .before .before .before .before .before .before .before .a) .given .0 .1 .0) s) (second-kind l) ((c .before .before .before .before .before .slot-words2) .result) (subst (λ k. slot-words-is k s ((c .before .before .before .before .before .slot-words2) .result) ≡ slot k (drop ((c .before .before .before .before .before .before .before .before .a) .given .0 .1 .0) s)) ((c .before .before .before .before .before .before .second-kind) .ensures) ((c .before .before .before .before .before .slot-words2) .ensures)) ((c .before .before .before .b) .given .0 .0) ((c .before .before .before .b) .given .0 .1 .0) ((c .before .before .before .b) .given .1)) (sym ((c .before .is-named) .ensures) ∙ (c .if1) .taken)
 
--- src/items.rt:94:20
 cast-t17 : tie.Need-cast-t17
 cast-t17 c = search needs
 
--- src/items.rt:81:1
 returns-4 : tie.Need-returns-4
 returns-4 c =
     let a = (c .before .before .before .before .before .before .before .before .before .before .before .before .before .args) in

@@ -1,7 +1,6 @@
 -- `loader::items::put_item` meets its contract. Assumes nothing.
-use lib.ListN.{set, length-set}
+use lib.ListN.{length-set}
 use native.Mathlib.Omega.{arith}
-use Prim.Native.Nat.{_+_, _*_}
 use Rattle.loader.proofs.Listing.{item-put}
 use borrow.Author.Needs.{needs}
 use Rattle.loader.proofs.items.put_item.Statement.{statement}
@@ -9,51 +8,39 @@ use Rattle.loader.proofs.items.put_item.Tie as tie
 use Rattle.loader.proofs.items.put_item.Reads as reads
 use Rattle.loader.proofs.items.put_item.Lts as lts
 
--- src/items.rt:103:32
 mul-words : tie.Need-mul-words
 mul-words c = search needs
 
--- src/items.rt:103:15
 add-words : tie.Need-add-words
 add-words c = search needs
 
--- src/items.rt:103:9
 mul-words-2 : tie.Need-mul-words-2
 mul-words-2 c = search needs
 
--- src/items.rt:103:9
 slice-write-words : tie.Need-slice-write-words
 slice-write-words c = search needs
 
--- src/items.rt:104:32
 mul-words-3 : tie.Need-mul-words-3
 mul-words-3 c = search needs
 
--- src/items.rt:104:15
 add-words-2 : tie.Need-add-words-2
 add-words-2 c = search needs
 
--- src/items.rt:104:15
 add-words-3 : tie.Need-add-words-3
 add-words-3 c = search needs
 
--- src/items.rt:104:9
 mul-words-4 : tie.Need-mul-words-4
 mul-words-4 c = search needs
 
--- src/items.rt:104:9
 slice-write-words-2 : tie.Need-slice-write-words-2
 slice-write-words-2 c = simp length-set (omega arith)
 
--- src/items.rt:98:1
 same-length : tie.Need-same-length
 same-length c = search needs
 
--- src/items.rt:98:1
 returns : tie.Need-returns
 returns c = item-put ((c .before .args) .words .now) ((c .before .args) .i) ((c .before .args) .value) ((c .before .args) .name) ((c .before .pre)) ((c .if1) .taken)
 
--- src/items.rt:98:1
 returns-2 : tie.Need-returns-2
 returns-2 c = search needs
 

@@ -1,6 +1,5 @@
 -- `loader::items::read_items` meets its contract. Assumes nothing.
 use mathlib.Core.Path.{sym, _∙_}
-use lib.ListN.{drop}
 use Rattle.loader.proofs.Listing.{behind-self, none-held, some-lost}
 use borrow.Author.Needs.{needs}
 use Rattle.loader.proofs.items.read_items.Statement.{statement}
@@ -11,37 +10,30 @@ use Rattle.loader.proofs.items.at_end.Reads as at-end-reads
 use Rattle.loader.proofs.items.is_empty_list.Reads as is-empty-list-reads
 use Rattle.loader.proofs.items.read_list.Reads as read-list-reads
 
--- src/items.rt:131:8
 is-empty-list-requires : tie.Need-is-empty-list-requires
 is-empty-list-requires c κs = search needs
 
--- src/items.rt:132:12
 at-end-requires : tie.Need-at-end-requires
 at-end-requires c κs = search needs
 
--- src/items.rt:133:13
 returns : tie.Need-returns
 returns c =
     let a = (c .before .before .before .before .before .before .args) in
     let s = a .file .now in
     record { behind = behind-self _ _; are = none-held s _ (a .listed) (a .at) (a .first) (sym ((c .before .before .before .is-empty-list) .ensures) ∙ (c .before .before .if1) .taken) (sym ((c .before .at-end) .ensures) ∙ (c .if2) .taken) }
 
--- src/items.rt:135:9
 returns-2 : tie.Need-returns-2
 returns-2 c =
     let a = (c .before .before .before .before .before .before .args) in
     let s = a .file .now in
     record { behind = behind-self _ _; are = some-lost s (a .words .now) (a .listed) (a .at) (a .first) (sym ((c .before .before .before .is-empty-list) .ensures) ∙ (c .before .before .if1) .taken) (sym ((c .before .at-end) .ensures) ∙ (c .if2) .left) }
 
--- src/items.rt:137:5
 read-list-requires : tie.Need-read-list-requires
 read-list-requires c κs = search needs
 
--- src/items.rt:127:1
 same-length : tie.Need-same-length
 same-length c = search needs
 
--- src/items.rt:127:1
 returns-3 : tie.Need-returns-3
 returns-3 c = search needs
 

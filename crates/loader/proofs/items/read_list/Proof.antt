@@ -1,5 +1,5 @@
 -- `loader::items::read_list` meets its contract. Assumes nothing.
-use mathlib.Core.Path.{refl, sym, ap, _∙_}
+use mathlib.Core.Path.{sym, ap, _∙_}
 use native.Mathlib.Omega.{arith}
 use borrow.Author.Needs.{needs}
 use lib.ListN.{length, drop, length-drop}
@@ -19,21 +19,17 @@ Inv-loop file listed at words₀ first e₀ i₀ words e i = Behind first words�
 abbrev μ-loop : tie.MeasureT-loop
 μ-loop file listed at words₀ first e₀ i₀ words e i = length (drop e file)
 
--- src/items.rt:114:5
 loop-holds : tie.Need-loop-holds Inv-loop μ-loop
 loop-holds c =
     let a = (c .before .before .args) in
     (behind-self (a .first) (a .words .now), so-far-begun (a .file .now) (a .words .now) (a .listed) (a .at) (a .first))
 
--- src/items.rt:115:12
 at-end-requires : tie.Need-at-end-requires Inv-loop μ-loop
 at-end-requires c κs = search needs
 
--- src/items.rt:116:13
 same-length : tie.Need-same-length Inv-loop μ-loop
 same-length c = (c .before .before .loop) .inv .0 .long
 
--- src/items.rt:116:13
 returns : tie.Need-returns Inv-loop μ-loop
 returns c =
     let a = (c .before .before .before .before .before .args) in
@@ -41,23 +37,18 @@ returns c =
     let l = (c .before .before .loop) in
     record { behind = l .inv .0; are = so-far-ended (l .inv .1) (sym ((c .before .at-end) .ensures) ∙ (c .if1) .taken) ((c .before .before .before .before .before .pre) .3) }
 
--- src/items.rt:118:48
 item-words-requires : tie.Need-item-words-requires Inv-loop μ-loop
 item-words-requires c κs = (c .before .before .before .before .before .pre) .0
 
--- src/items.rt:118:28
 enum-known-value : tie.Need-enum-known-value Inv-loop μ-loop
 enum-known-value c = search needs
 
--- src/items.rt:119:13
 enum-told : tie.Need-enum-told Inv-loop μ-loop
 enum-told c = search needs
 
--- src/items.rt:119:13
 same-length-2 : tie.Need-same-length-2 Inv-loop μ-loop
 same-length-2 c = (c .before .before .before .before .before .loop) .inv .0 .long
 
--- src/items.rt:119:13
 returns-2 : tie.Need-returns-2 Inv-loop μ-loop
 returns-2 c =
     let a = (c .before .before .before .before .before .before .before .before .args) in
@@ -65,19 +56,15 @@ returns-2 c =
     let l = (c .before .before .before .before .before .loop) in
     record { behind = l .inv .0; are = so-far-lost (l .inv .1) (sym ((c .before .before .before .before .at-end) .ensures) ∙ (c .before .before .before .if1) .left) (sym ((c .before .before .item-words) .ensures) ∙ ap (item-words-is (a .listed) s) ((c .enum-told) .given .1)) ((c .before .before .before .before .before .before .before .before .pre) .3) }
 
--- src/items.rt:121:25
 add-put-item : tie.Need-add-put-item Inv-loop μ-loop
 add-put-item c = omega (arith, (c .before .before .before .before .before .before .before .loop) .inv .1 .fewer, length-drop ((c .before .before .before .before .before .before .before .before .before .before .args) .at) ((c .before .before .before .before .before .before .before .before .before .before .args) .file .now), (c .before .before .before .before .before .before .before .before .before .before .pre) .0, (c .before .before .before .before .before .before .before .before .before .before .pre) .2)
 
--- src/items.rt:121:9
 put-item-requires : tie.Need-put-item-requires Inv-loop μ-loop
 put-item-requires c κs = (c .before .before .before .before .before .before .before .loop) .inv .0 .long ∙ (c .before .before .before .before .before .before .before .before .before .before .pre) .1
 
--- src/items.rt:122:9
 add-i : tie.Need-add-i Inv-loop μ-loop
 add-i c = omega (arith, (c .before .before .before .before .before .before .before .before .before .before .loop) .inv .1 .fewer, length-drop ((c .before .before .before .before .before .before .before .before .before .before .before .before .before .args) .at) ((c .before .before .before .before .before .before .before .before .before .before .before .before .before .args) .file .now), (c .before .before .before .before .before .before .before .before .before .before .before .before .before .pre) .0)
 
--- src/items.rt:114:5
 loop-less : tie.Need-loop-less Inv-loop μ-loop
 loop-less c =
     let a = (c .before .before .before .before .before .before .before .before .before .before .before .before .before .args) in
@@ -85,7 +72,6 @@ loop-less c =
     let l = (c .before .before .before .before .before .before .before .before .before .before .loop) in
     so-far-shorter (l .inv .1) (c .before .before .before .before .before .value .given .0 .0) (c .before .before .before .before .before .value .given .0 .1 .0) (c .before .before .before .before .before .value .given .0 .1 .1 .0) _ (sym ((c .before .before .before .before .before .before .before .before .before .at-end) .ensures) ∙ (c .before .before .before .before .before .before .before .before .if1) .left) (sym ((c .before .before .before .before .before .before .before .item-words) .ensures) ∙ ap (item-words-is (a .listed) s) ((c .before .before .before .before .before .value) .given .1)) ((c .before .before .put-item) .ensures)
 
--- src/items.rt:114:5
 loop-again : tie.Need-loop-again Inv-loop μ-loop
 loop-again c =
     let a = (c .before .before .before .before .before .before .before .before .before .before .before .before .before .args) in

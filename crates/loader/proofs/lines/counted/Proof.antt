@@ -7,90 +7,69 @@ use Rattle.loader.proofs.lines.counted.Reads as reads
 use Rattle.loader.proofs.lines.counted.Lts as lts
 use Rattle.loader.proofs.lines.stage_of.Reads as stage-of-reads
 
--- src/lines.rt:113:5
 stage-of-requires : tie.Need-stage-of-requires
 stage-of-requires c κs = search needs
 
--- src/lines.rt:114:15
 add-r : tie.Need-add-r
 add-r c = search needs
 
--- src/lines.rt:117:25
 enum-told : tie.Need-enum-told
 enum-told c = search needs
 
--- src/lines.rt:117:25
 add-r-2 : tie.Need-add-r-2
 add-r-2 c = search needs
 
--- src/lines.rt:120:24
 enum-told-2 : tie.Need-enum-told-2
 enum-told-2 c = search needs
 
--- src/lines.rt:120:24
 add-r-3 : tie.Need-add-r-3
 add-r-3 c = search needs
 
--- src/lines.rt:123:23
 enum-told-3 : tie.Need-enum-told-3
 enum-told-3 c = search needs
 
--- src/lines.rt:123:23
 add-r-4 : tie.Need-add-r-4
 add-r-4 c = search needs
 
--- src/lines.rt:126:29
 enum-told-4 : tie.Need-enum-told-4
 enum-told-4 c = search needs
 
--- src/lines.rt:126:29
 add-r-5 : tie.Need-add-r-5
 add-r-5 c = search needs
 
--- src/lines.rt:129:29
 enum-told-5 : tie.Need-enum-told-5
 enum-told-5 c = search needs
 
--- src/lines.rt:129:29
 add-r-6 : tie.Need-add-r-6
 add-r-6 c = search needs
 
--- src/lines.rt:132:27
 enum-told-6 : tie.Need-enum-told-6
 enum-told-6 c = search needs
 
--- src/lines.rt:132:27
 add-r-7 : tie.Need-add-r-7
 add-r-7 c = search needs
 
 enum-told-7 : tie.Need-enum-told-7
 enum-told-7 c = search needs
 
--- src/lines.rt:108:1
 returns : tie.Need-returns
 returns c = counted-is ((c .before .before .before .before .before .args) .n) ((c .before .before .before .before .before .args) .count) ((c .before .before .before .before .before .args) .word) _ _ ((c .before .enum-told) .given .1) ((c .before .before .before .before .stage-of) .ensures)
 
--- src/lines.rt:108:1
 returns-2 : tie.Need-returns-2
 returns-2 c = counted-is ((c .before .before .before .before .before .args) .n) ((c .before .before .before .before .before .args) .count) ((c .before .before .before .before .before .args) .word) _ _ ((c .before .enum-told2) .given .1) ((c .before .before .before .before .stage-of) .ensures)
 
--- src/lines.rt:108:1
 returns-3 : tie.Need-returns-3
 returns-3 c = counted-is ((c .before .before .before .before .before .args) .n) ((c .before .before .before .before .before .args) .count) ((c .before .before .before .before .before .args) .word) _ _ ((c .before .enum-told3) .given .1) ((c .before .before .before .before .stage-of) .ensures)
 
--- src/lines.rt:108:1
 returns-4 : tie.Need-returns-4
 returns-4 c = counted-is ((c .before .before .before .before .before .args) .n) ((c .before .before .before .before .before .args) .count) ((c .before .before .before .before .before .args) .word) _ _ ((c .before .enum-told4) .given .1) ((c .before .before .before .before .stage-of) .ensures)
 
--- src/lines.rt:108:1
 returns-5 : tie.Need-returns-5
 returns-5 c = counted-is ((c .before .before .before .before .before .args) .n) ((c .before .before .before .before .before .args) .count) ((c .before .before .before .before .before .args) .word) _ _ ((c .before .enum-told5) .given .1) ((c .before .before .before .before .stage-of) .ensures)
 
--- src/lines.rt:108:1
 returns-6 : tie.Need-returns-6
 returns-6 c = counted-is ((c .before .before .before .before .before .args) .n) ((c .before .before .before .before .before .args) .count) ((c .before .before .before .before .before .args) .word) _ _ ((c .before .enum-told6) .given .1) ((c .before .before .before .before .stage-of) .ensures)
 
--- src/lines.rt:108:1
 returns-7 : tie.Need-returns-7
 returns-7 c = counted-is ((c .before .before .before .before .args) .n) ((c .before .before .before .before .args) .count) ((c .before .before .before .before .args) .word) _ _ ((c .enum-told7) .given .1) ((c .before .before .before .stage-of) .ensures)
 

@@ -10,91 +10,73 @@ use Rattle.loader.proofs.lines.in_place.Tie as tie
 use Rattle.loader.proofs.lines.in_place.Reads as reads
 use Rattle.loader.proofs.lines.in_place.Lts as lts
 
--- src/lines.rt:55:24
 enum-told : tie.Need-enum-told
 enum-told c = search needs
 
--- src/lines.rt:56:25
 enum-told-2 : tie.Need-enum-told-2
 enum-told-2 c = search needs
 
--- src/lines.rt:57:25
 enum-told-3 : tie.Need-enum-told-3
 enum-told-3 c = search needs
 
--- src/lines.rt:58:25
 enum-told-4 : tie.Need-enum-told-4
 enum-told-4 c = search needs
 
--- src/lines.rt:59:25
 enum-told-5 : tie.Need-enum-told-5
 enum-told-5 c = search needs
 
--- src/lines.rt:60:24
 enum-told-6 : tie.Need-enum-told-6
 enum-told-6 c = search needs
 
--- src/lines.rt:61:28
 enum-told-7 : tie.Need-enum-told-7
 enum-told-7 c = search needs
 
--- src/lines.rt:51:1
 returns : tie.Need-returns
 returns c = ap (λ w. in-place w ((c .before .before .args) .stage)) (sym ((c .enum-told) .given .1))
 
--- src/lines.rt:51:1
 returns-2 : tie.Need-returns-2
 returns-2 c =
     let st = (c .before .before .before .args) .stage in
     sym (ap (λ w. in-place w st) ((c .before .enum-told2) .given .1) ∙ ap (λ b. b && leb st 2) (le-leb 1 st ((c .if1) .taken)))
 
--- src/lines.rt:51:1
 returns-3 : tie.Need-returns-3
 returns-3 c =
     let st = (c .before .before .before .args) .stage in
     lt-leb 1 st ((c .if1) .left) ∙ sym (ap (λ w. in-place w st) ((c .before .enum-told2) .given .1) ∙ ap (λ b. b && leb st 2) (lt-leb 1 st ((c .if1) .left)))
 
--- src/lines.rt:51:1
 returns-4 : tie.Need-returns-4
 returns-4 c =
     let st = (c .before .before .before .args) .stage in
     sym (ap (λ w. in-place w st) ((c .before .enum-told3) .given .1) ∙ ap (λ b. b && leb st 3) (le-leb 1 st ((c .if2) .taken)))
 
--- src/lines.rt:51:1
 returns-5 : tie.Need-returns-5
 returns-5 c =
     let st = (c .before .before .before .args) .stage in
     lt-leb 1 st ((c .if2) .left) ∙ sym (ap (λ w. in-place w st) ((c .before .enum-told3) .given .1) ∙ ap (λ b. b && leb st 3) (lt-leb 1 st ((c .if2) .left)))
 
--- src/lines.rt:51:1
 returns-6 : tie.Need-returns-6
 returns-6 c =
     let st = (c .before .before .before .args) .stage in
     sym (ap (λ w. in-place w st) ((c .before .enum-told4) .given .1) ∙ ap (λ b. b && leb st 4) (le-leb 1 st ((c .if3) .taken)))
 
--- src/lines.rt:51:1
 returns-7 : tie.Need-returns-7
 returns-7 c =
     let st = (c .before .before .before .args) .stage in
     lt-leb 1 st ((c .if3) .left) ∙ sym (ap (λ w. in-place w st) ((c .before .enum-told4) .given .1) ∙ ap (λ b. b && leb st 4) (lt-leb 1 st ((c .if3) .left)))
 
--- src/lines.rt:51:1
 returns-8 : tie.Need-returns-8
 returns-8 c =
     let st = (c .before .before .before .args) .stage in
     sym (ap (λ w. in-place w st) ((c .before .enum-told5) .given .1) ∙ ap (λ b. b && leb st 5) (le-leb 1 st ((c .if4) .taken)))
 
--- src/lines.rt:51:1
 returns-9 : tie.Need-returns-9
 returns-9 c =
     let st = (c .before .before .before .args) .stage in
     lt-leb 1 st ((c .if4) .left) ∙ sym (ap (λ w. in-place w st) ((c .before .enum-told5) .given .1) ∙ ap (λ b. b && leb st 5) (lt-leb 1 st ((c .if4) .left)))
 
--- src/lines.rt:51:1
 returns-10 : tie.Need-returns-10
 returns-10 c = search needs
 
--- src/lines.rt:51:1
 returns-11 : tie.Need-returns-11
 returns-11 c = search needs
 

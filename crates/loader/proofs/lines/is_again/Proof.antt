@@ -21,11 +21,9 @@ Inv-loop file words n name m₀ m = again file words n ≡ not (is-none (first (
 abbrev μ-loop : tie.MeasureT-loop
 μ-loop file words n name m₀ m = n - m
 
--- src/lines.rt:69:9
 module-name-requires : tie.Need-module-name-requires Inv-loop μ-loop
 module-name-requires c κs = search needs
 
--- src/lines.rt:71:5
 loop-holds : tie.Need-loop-holds Inv-loop μ-loop
 unfolding again
 loop-holds c =
@@ -34,15 +32,12 @@ loop-holds c =
     let ws = a .words .now in
     found-begun (λ other. eq-numbers other (name-at s ws (a .n))) (name-at s ws) (a .n)
 
--- src/lines.rt:72:13
 module-name-requires-2 : tie.Need-module-name-requires-2 Inv-loop μ-loop
 module-name-requires-2 c κs = search needs
 
--- src/lines.rt:73:12
 same-name-requires : tie.Need-same-name-requires Inv-loop μ-loop
 same-name-requires c κs = search needs
 
--- src/lines.rt:74:13
 returns : tie.Need-returns Inv-loop μ-loop
 unfolding module-row
 returns c =
@@ -52,15 +47,12 @@ returns c =
     let l = (c .before .before .before .before .loop) in
     sym (l .inv ∙ found-here (λ other. eq-numbers other (name-at s ws (a .n))) (name-at s ws) (a .n) (l .m) ((c .before .before .before .loop-test) .taken) (ap₂ eq-numbers (sym ((c .before .before .module-name2) .ensures s)) (sym ((c .before .before .before .before .before .module-name) .ensures s)) ∙ sym ((c .before .same-name) .ensures) ∙ (c .if1) .taken))
 
--- src/lines.rt:76:9
 add-m : tie.Need-add-m Inv-loop μ-loop
 add-m c = omega arith
 
--- src/lines.rt:71:5
 loop-less : tie.Need-loop-less Inv-loop μ-loop
 loop-less c = omega arith
 
--- src/lines.rt:71:5
 loop-again : tie.Need-loop-again Inv-loop μ-loop
 unfolding module-row
 loop-again c =
@@ -70,7 +62,6 @@ loop-again c =
     let l = (c .before .before .before .before .loop) in
     l .inv ∙ found-later (λ other. eq-numbers other (name-at s ws (a .n))) (name-at s ws) (a .n) (l .m) ((c .before .before .before .loop-test) .taken) (ap₂ eq-numbers (sym ((c .before .before .module-name2) .ensures s)) (sym ((c .before .before .before .before .before .module-name) .ensures s)) ∙ sym ((c .before .same-name) .ensures) ∙ (c .if1) .left)
 
--- src/lines.rt:66:1
 returns-2 : tie.Need-returns-2 Inv-loop μ-loop
 returns-2 c =
     let a = (c .before .before .before .before .before .args) in

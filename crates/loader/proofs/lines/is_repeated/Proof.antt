@@ -10,15 +10,12 @@ use Rattle.loader.proofs.lines.is_repeated.Lts as lts
 use Rattle.loader.proofs.lines.is_again.Reads as is-again-reads
 use Rattle.loader.proofs.lines.is_module.Reads as is-module-reads
 
--- src/lines.rt:99:8
 is-module-requires : tie.Need-is-module-requires
 is-module-requires c κs = search needs
 
--- src/lines.rt:100:9
 is-again-requires : tie.Need-is-again-requires
 is-again-requires c κs = search needs
 
--- src/lines.rt:100:9
 returns : tie.Need-returns
 returns c =
     let a = (c .before .before .before .before .before .args) in
@@ -26,7 +23,6 @@ returns c =
     let ws = a .words .now in
     (c .is-again) .ensures ∙ ap (λ m. m && again s ws (a .n)) (sym (sym ((c .before .before .is-module) .ensures) ∙ (c .before .if1) .taken))
 
--- src/lines.rt:96:1
 returns-2 : tie.Need-returns-2
 returns-2 c = search needs
 

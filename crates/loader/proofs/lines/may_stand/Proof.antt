@@ -11,11 +11,9 @@ use Rattle.loader.proofs.lines.may_stand.Lts as lts
 use Rattle.loader.proofs.lines.in_place.Reads as in-place-reads
 use Rattle.loader.proofs.lines.is_repeated.Reads as is-repeated-reads
 
--- src/lines.rt:109:8
 is-repeated-requires : tie.Need-is-repeated-requires
 is-repeated-requires c κs = search needs
 
--- src/lines.rt:110:9
 returns : tie.Need-returns
 returns c =
     let a = (c .before .before .before .before .args) in
@@ -23,11 +21,9 @@ returns c =
     let ws = a .words .now in
     sym (ap (λ g. in-place (a .word) (a .stage) && not g) (sym ((c .before .is-repeated) .ensures) ∙ (c .if1) .taken) ∙ and-false (in-place (a .word) (a .stage)))
 
--- src/lines.rt:112:5
 in-place-requires : tie.Need-in-place-requires
 in-place-requires c κs = search needs
 
--- src/lines.rt:106:1
 returns-2 : tie.Need-returns-2
 returns-2 c =
     let a = (c .before .before .before .before .before .args) in

@@ -8,59 +8,45 @@ use Rattle.loader.proofs.pass.finish.Reads as reads
 use Rattle.loader.proofs.pass.finish.Lts as lts
 use Rattle.loader.proofs.rows.put_four.Reads as put-four-reads
 
--- src/pass.rt:23:30
 cast-put-four : tie.Need-cast-put-four
 cast-put-four c = search needs
 
--- src/pass.rt:23:48
 cast-put-four-2 : tie.Need-cast-put-four-2
 cast-put-four-2 c = search needs
 
--- src/pass.rt:23:68
 cast-put-four-3 : tie.Need-cast-put-four-3
 cast-put-four-3 c = search needs
 
--- src/pass.rt:23:5
 put-four-requires : tie.Need-put-four-requires
 put-four-requires c κs = search needs
 
--- src/pass.rt:24:34
 mul-row : tie.Need-mul-row
 mul-row c = search needs
 
--- src/pass.rt:24:15
 add-row : tie.Need-add-row
 add-row c = search needs
 
--- src/pass.rt:25:27
 add-put-four : tie.Need-add-put-four
 add-put-four c = search needs
 
--- src/pass.rt:25:36
 cast-put-four-4 : tie.Need-cast-put-four-4
 cast-put-four-4 c = search needs
 
--- src/pass.rt:25:53
 cast-put-four-5 : tie.Need-cast-put-four-5
 cast-put-four-5 c = search needs
 
--- src/pass.rt:25:69
 cast-put-four-6 : tie.Need-cast-put-four-6
 cast-put-four-6 c = omega (arith, (c .before .before .before .before .before .before .before .before .before .before .before .before .before .before .pre) .definitions)
 
--- src/pass.rt:25:91
 cast-put-four-7 : tie.Need-cast-put-four-7
 cast-put-four-7 c = omega (arith, (c .before .before .before .before .before .before .before .before .before .before .before .before .before .before .before .pre) .expressions)
 
--- src/pass.rt:25:5
 put-four-requires-2 : tie.Need-put-four-requires-2
 put-four-requires-2 c κs = omega (arith, (c .before .before .before .before .before .before .before .before .before .before .before .before .before .before .before .pre) .room, (c .before .before .before .before .before .before .before .before .before .before .before .before .before .before .before .pre) .modules, (c .before .before .before .before .before .before .before .before .put-four) .ensures .long)
 
--- src/pass.rt:19:1
 same-length : tie.Need-same-length
 same-length c = search needs
 
--- src/pass.rt:19:1
 returns : tie.Need-returns
 returns c = finish-put ((c .before .before .before .before .before .before .before .before .before .before .before .before .before .before .before .before .before .before .args) .n) ((c .before .before .before .before .before .before .before .before .before .before .before .before .before .before .before .before .before .before .args) .version) ((c .before .before .before .before .before .before .before .before .before .before .before .before .before .before .before .before .before .before .pre)) ((c .before .before .before .before .before .before .before .before .before .before .before .put-four) .ensures) ((c .before .before .put-four2) .ensures)
 

@@ -25,26 +25,21 @@ Inv-loop file words₀ from version n₀ at₀ line₀ words n at line =
 abbrev μ-loop : tie.MeasureT-loop
 μ-loop file words₀ from version n₀ at₀ line₀ words n at line = length (drop at file)
 
--- src/pass.rt:45:5
 loop-holds : tie.Need-loop-holds Inv-loop μ-loop
 loop-holds c =
     let a = (c .before .before .args) in
     let s = a .file .now in
     (good-begun s (a .words .now) ((c .before .before .pre) .0) ((c .before .before .pre) .1), refl, omega arith, pass-begun (a .version) s (a .words .now) (drop (a .from) s))
 
--- src/pass.rt:46:15
 step-on-requires : tie.Need-step-on-requires Inv-loop μ-loop
 step-on-requires c κs = ((c .before .before .loop) .inv .0, omega (arith, (c .before .loop-test) .taken))
 
--- src/pass.rt:47:26
 enum-known-number : tie.Need-enum-known-number Inv-loop μ-loop
 enum-known-number c = search needs
 
--- src/pass.rt:48:17
 same-length : tie.Need-same-length Inv-loop μ-loop
 same-length c = (c .before .before .before .before .before .step-on) .ensures .long ∙ (c .before .before .before .before .before .before .before .before .loop) .inv .1
 
--- src/pass.rt:48:17
 returns : tie.Need-returns Inv-loop μ-loop
 returns c =
     let a = (c .before .before .before .before .before .before .before .before .before .before .before .args) in
@@ -52,15 +47,12 @@ returns c =
     let l = (c .before .before .before .before .before .before .before .before .loop) in
     record { long = (c .before .before .before .before .before .step-on) .ensures .long ∙ l .inv .1; first = l .inv .3 ∙ pass-refused (l .line) (seen-as (a .version) s (l .words) (l .n)) s (l .at) ((c .before .before .before .before .before .before .before .loop-test) .taken) ((c .before .number) .given .0 .0) (sym ((c .before .before .before .before .before .step-on) .ensures .is (a .version)) ∙ ap (step-is (a .version) s ((c .before .before .before .before .before .step-on) .last .1 .1 .0)) ((c .before .number) .given .1)) }
 
--- src/pass.rt:50:22
 enum-known-m : tie.Need-enum-known-m Inv-loop μ-loop
 enum-known-m c = search needs
 
--- src/pass.rt:55:9
 add-line : tie.Need-add-line Inv-loop μ-loop
 add-line c = omega (arith, (c .before .before .before .before .before .before .before .before .loop) .inv .2, length-drop ((c .before .before .before .before .before .before .before .before .before .before .before .args) .from) ((c .before .before .before .before .before .before .before .before .before .before .before .args) .file .now), (c .before .before .before .before .before .before .before .before .before .before .before .pre) .0)
 
--- src/pass.rt:45:5
 loop-less : tie.Need-loop-less Inv-loop μ-loop
 loop-less c =
     let a = (c .before .before .before .before .before .before .before .before .before .before .before .args) in
@@ -68,7 +60,6 @@ loop-less c =
     let l = (c .before .before .before .before .before .before .before .before .loop) in
     pass-shorter (l .line) (seen-as (a .version) s (l .words) (l .n)) s (l .at) ((c .before .before .before .before .before .before .before .loop-test) .taken) (seen-as (a .version) s ((c .before .before .before .before .before .step-on) .last .1 .1 .0) ((c .before .m) .given .0 .0)) (drop ((c .before .m) .given .0 .1 .0) s) (sym ((c .before .before .before .before .before .step-on) .ensures .is (a .version)) ∙ ap (step-is (a .version) s ((c .before .before .before .before .before .step-on) .last .1 .1 .0)) ((c .before .m) .given .1))
 
--- src/pass.rt:45:5
 loop-again : tie.Need-loop-again Inv-loop μ-loop
 loop-again c =
     let a = (c .before .before .before .before .before .before .before .before .before .before .before .args) in
@@ -77,15 +68,12 @@ loop-again c =
     let less = pass-shorter (l .line) (seen-as (a .version) s (l .words) (l .n)) s (l .at) ((c .before .before .before .before .before .before .before .loop-test) .taken) (seen-as (a .version) s ((c .before .before .before .before .before .step-on) .last .1 .1 .0) ((c .before .m) .given .0 .0)) (drop ((c .before .m) .given .0 .1 .0) s) (sym ((c .before .before .before .before .before .step-on) .ensures .is (a .version)) ∙ ap (step-is (a .version) s ((c .before .before .before .before .before .step-on) .last .1 .1 .0)) ((c .before .m) .given .1)) in
     (subst (GoodAfter s ((c .before .before .before .before .before .step-on) .last .1 .1 .0)) ((c .before .m) .given .1) ((c .before .before .before .before .before .step-on) .ensures .good), (c .before .before .before .before .before .step-on) .ensures .long ∙ l .inv .1, omega (arith, less, l .inv .2), l .inv .3 ∙ pass-goes (l .line) (seen-as (a .version) s (l .words) (l .n)) s (l .at) ((c .before .before .before .before .before .before .before .loop-test) .taken) (seen-as (a .version) s ((c .before .before .before .before .before .step-on) .last .1 .1 .0) ((c .before .m) .given .0 .0)) (drop ((c .before .m) .given .0 .1 .0) s) (sym ((c .before .before .before .before .before .step-on) .ensures .is (a .version)) ∙ ap (step-is (a .version) s ((c .before .before .before .before .before .step-on) .last .1 .1 .0)) ((c .before .m) .given .1)))
 
--- src/pass.rt:57:5
 finish-requires : tie.Need-finish-requires Inv-loop μ-loop
 finish-requires c κs = (c .before .before .loop) .inv .0 .fine
 
--- src/pass.rt:29:1
 same-length-2 : tie.Need-same-length-2 Inv-loop μ-loop
 same-length-2 c = (c .before .before .finish) .ensures .left .long ∙ (c .before .before .before .before .before .loop) .inv .1
 
--- src/pass.rt:29:1
 returns-2 : tie.Need-returns-2 Inv-loop μ-loop
 returns-2 c =
     let a = (c .before .before .before .before .before .before .before .before .args) in

@@ -1,7 +1,6 @@
 -- `loader::rows::last_word` meets its contract. Assumes nothing.
 use mathlib.Core.Path.{sym, _∙_}
 use mathlib.Core.Bool.{true, false}
-use native.Mathlib.Omega.{arith}
 use Rattle.loader.specs.Values.{parts}
 use Rattle.loader.specs.Lines.{is-size}
 use borrow.Author.Needs.{needs}
@@ -12,35 +11,28 @@ use Rattle.loader.proofs.rows.last_word.Lts as lts
 use Rattle.loader.proofs.items.is_empty_list.Reads as is-empty-list-reads
 use Rattle.loader.proofs.rows.is_size.Reads as is-size-reads
 
--- src/rows.rt:117:8
 is-empty-list-requires : tie.Need-is-empty-list-requires
 is-empty-list-requires c κs = search needs
 
--- src/rows.rt:119:12
 is-size-requires : tie.Need-is-size-requires
 is-size-requires c κs = search needs
 
--- src/rows.rt:120:20
 cast-result : tie.Need-cast-result
 cast-result c = search needs
 
--- src/rows.rt:120:13
 returns : tie.Need-returns
 returns c =
     let x = (c .before .before .before .before .before .args) .tail in
     sym (λ i. elim ((sym ((c .before .before .before .before .is-empty-list) .ensures) ∙ (c .before .before .before .if1) .taken) i) [ true ↦ elim ((sym ((c .before .before .is-size) .ensures) ∙ (c .before .if2) .taken) i) [ true ↦ parts (x .b) .high | false ↦ parts (x .c) .low ] | false ↦ x .list ])
 
--- src/rows.rt:122:16
 cast-result-2 : tie.Need-cast-result-2
 cast-result-2 c = search needs
 
--- src/rows.rt:122:9
 returns-2 : tie.Need-returns-2
 returns-2 c =
     let x = (c .before .before .before .before .before .args) .tail in
     sym (λ i. elim ((sym ((c .before .before .before .before .is-empty-list) .ensures) ∙ (c .before .before .before .if1) .taken) i) [ true ↦ elim ((sym ((c .before .before .is-size) .ensures) ∙ (c .before .if2) .left) i) [ true ↦ parts (x .b) .high | false ↦ parts (x .c) .low ] | false ↦ x .list ])
 
--- src/rows.rt:113:1
 returns-3 : tie.Need-returns-3
 returns-3 c = search needs
 

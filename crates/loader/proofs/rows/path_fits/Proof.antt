@@ -8,19 +8,16 @@ use Rattle.loader.proofs.rows.path_fits.Tie as tie
 use Rattle.loader.proofs.rows.path_fits.Reads as reads
 use Rattle.loader.proofs.rows.path_fits.Lts as lts
 
--- src/rows.rt:210:13
 returns : tie.Need-returns
 returns c =
     let a = (c .before .before .args) in
     sym (λ i. elim (eq-eqb (a .kind) 3 ((c .before .if1) .taken) i) [ true ↦ elim (eq-eqb (a .value) 0 ((c .if2) .taken) i) [ true ↦ eqb (a .count) 0 | false ↦ true ] | false ↦ true ])
 
--- src/rows.rt:205:1
 returns-2 : tie.Need-returns-2
 returns-2 c =
     let a = (c .before .before .args) in
     sym (λ i. elim (eq-eqb (a .kind) 3 ((c .before .if1) .taken) i) [ true ↦ elim (ne-eqb (a .value) 0 ((c .if2) .left) i) [ true ↦ eqb (a .count) 0 | false ↦ true ] | false ↦ true ])
 
--- src/rows.rt:205:1
 returns-3 : tie.Need-returns-3
 returns-3 c =
     let a = (c .before .args) in

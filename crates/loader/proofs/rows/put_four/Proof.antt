@@ -10,55 +10,42 @@ use Rattle.loader.proofs.rows.put_four.Tie as tie
 use Rattle.loader.proofs.rows.put_four.Reads as reads
 use Rattle.loader.proofs.rows.put_four.Lts as lts
 
--- src/rows.rt:128:5
 mul-words : tie.Need-mul-words
 mul-words c = search needs
 
--- src/rows.rt:128:5
 slice-write-words : tie.Need-slice-write-words
 slice-write-words c = search needs
 
--- src/rows.rt:129:11
 add-words : tie.Need-add-words
 add-words c = search needs
 
--- src/rows.rt:129:5
 mul-words-2 : tie.Need-mul-words-2
 mul-words-2 c = search needs
 
--- src/rows.rt:129:5
 slice-write-words-2 : tie.Need-slice-write-words-2
 slice-write-words-2 c = simp length-set (omega arith)
 
--- src/rows.rt:130:11
 add-words-2 : tie.Need-add-words-2
 add-words-2 c = search needs
 
--- src/rows.rt:130:5
 mul-words-3 : tie.Need-mul-words-3
 mul-words-3 c = search needs
 
--- src/rows.rt:130:5
 slice-write-words-3 : tie.Need-slice-write-words-3
 slice-write-words-3 c = simp length-set (omega arith)
 
--- src/rows.rt:131:11
 add-words-3 : tie.Need-add-words-3
 add-words-3 c = search needs
 
--- src/rows.rt:131:5
 mul-words-4 : tie.Need-mul-words-4
 mul-words-4 c = search needs
 
--- src/rows.rt:131:5
 slice-write-words-4 : tie.Need-slice-write-words-4
 slice-write-words-4 c = simp length-set (omega arith)
 
--- src/rows.rt:124:1
 same-length : tie.Need-same-length
 same-length c = search needs
 
--- src/rows.rt:124:1
 returns : tie.Need-returns
 returns c =
     let a = (c .args) in

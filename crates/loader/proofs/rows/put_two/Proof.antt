@@ -10,31 +10,24 @@ use Rattle.loader.proofs.rows.put_two.Tie as tie
 use Rattle.loader.proofs.rows.put_two.Reads as reads
 use Rattle.loader.proofs.rows.put_two.Lts as lts
 
--- src/rows.rt:120:5
 mul-words : tie.Need-mul-words
 mul-words c = search needs
 
--- src/rows.rt:120:5
 slice-write-words : tie.Need-slice-write-words
 slice-write-words c = search needs
 
--- src/rows.rt:121:11
 add-words : tie.Need-add-words
 add-words c = search needs
 
--- src/rows.rt:121:5
 mul-words-2 : tie.Need-mul-words-2
 mul-words-2 c = search needs
 
--- src/rows.rt:121:5
 slice-write-words-2 : tie.Need-slice-write-words-2
 slice-write-words-2 c = simp length-set (omega arith)
 
--- src/rows.rt:116:1
 same-length : tie.Need-same-length
 same-length c = search needs
 
--- src/rows.rt:116:1
 returns : tie.Need-returns
 returns c =
     let a = (c .args) in

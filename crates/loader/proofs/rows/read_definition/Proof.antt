@@ -23,110 +23,87 @@ use Rattle.loader.proofs.shapes.definition_shape.Reads as definition-sh
 use Rattle.loader.proofs.values.three_words.Reads as three-words-reads
 use Rattle.words.proofs.definition_word.Reads as definition-word-reads
 
--- src/rows.rt:246:55
 three-words-requires : tie.Need-three-words-requires
 three-words-requires c κs = search needs
 
--- src/rows.rt:246:25
 enum-known-scope : tie.Need-enum-known-scope
 enum-known-scope c = search needs
 
--- src/rows.rt:253:9
 enum-told : tie.Need-enum-told
 enum-told c = search needs
 
--- src/rows.rt:253:9
 returns : tie.Need-returns
 returns c =
     let a = (c .before .before .before .before .before .args) in
     let s = a .file .now in
     record { left = left-self (a .n) _; line = definition-no-first s _ (three-lost s _ Kind.Number Kind.Name Kind.Position ((c .before .before .three-words) .result) ((c .before .before .three-words) .ensures) ((c .enum-told) .given .1)) }
 
--- src/rows.rt:255:62
 three-words-requires-2 : tie.Need-three-words-requires-2
 three-words-requires-2 c κs = search needs
 
--- src/rows.rt:255:25
 enum-known-name-end : tie.Need-enum-known-name-end
 enum-known-name-end c = search needs
 
--- src/rows.rt:262:9
 enum-told-2 : tie.Need-enum-told-2
 enum-told-2 c = search needs
 
--- src/rows.rt:262:9
 returns-2 : tie.Need-returns-2
 returns-2 c =
     let a = (c .before .before .before .before .before .before .before .before .before .args) in
     let s = a .file .now in
     record { left = left-self (a .n) _; line = definition-no-second s _ (parts ((c .before .before .before .before .scope) .given .0 .0)) (parts ((c .before .before .before .before .scope) .given .0 .1 .0)) (parts ((c .before .before .before .before .scope) .given .0 .1 .1 .0)) ((c .before .before .before .before .scope) .given .0 .1 .1 .1 .0) (three-found s _ Kind.Number Kind.Name Kind.Position ((c .before .before .before .before .before .before .three-words) .result) ((c .before .before .before .before .before .before .three-words) .ensures) ((c .before .before .before .before .scope) .given .0 .0) ((c .before .before .before .before .scope) .given .0 .1 .0) ((c .before .before .before .before .scope) .given .0 .1 .1 .0) ((c .before .before .before .before .scope) .given .0 .1 .1 .1 .0) ((c .before .before .before .before .scope) .given .1)) (three-lost s _ Kind.Position Kind.Position Kind.Position ((c .before .before .three-words2) .result) ((c .before .before .three-words2) .ensures) ((c .enum-told2) .given .1)) }
 
--- src/rows.rt:264:26
 word-here-requires : tie.Need-word-here-requires
 word-here-requires c κs = search needs
 
--- src/rows.rt:264:18
 enum-known-p : tie.Need-enum-known-p
 enum-known-p c = search needs
 
--- src/rows.rt:265:9
 enum-told-3 : tie.Need-enum-told-3
 enum-told-3 c = search needs
 
--- src/rows.rt:265:9
 returns-3 : tie.Need-returns-3
 returns-3 c =
     let a = (c .before .before .before .before .before .before .before .before .before .before .before .before .before .args) in
     let s = a .file .now in
     record { left = left-self (a .n) _; line = definition-no-word s _ (parts ((c .before .before .before .before .before .before .before .before .scope) .given .0 .0)) (parts ((c .before .before .before .before .before .before .before .before .scope) .given .0 .1 .0)) (parts ((c .before .before .before .before .before .before .before .before .scope) .given .0 .1 .1 .0)) ((c .before .before .before .before .before .before .before .before .scope) .given .0 .1 .1 .1 .0) (three-found s _ Kind.Number Kind.Name Kind.Position ((c .before .before .before .before .before .before .before .before .before .before .three-words) .result) ((c .before .before .before .before .before .before .before .before .before .before .three-words) .ensures) ((c .before .before .before .before .before .before .before .before .scope) .given .0 .0) ((c .before .before .before .before .before .before .before .before .scope) .given .0 .1 .0) ((c .before .before .before .before .before .before .before .before .scope) .given .0 .1 .1 .0) ((c .before .before .before .before .before .before .before .before .scope) .given .0 .1 .1 .1 .0) ((c .before .before .before .before .before .before .before .before .scope) .given .1)) (parts ((c .before .before .before .before .name-end) .given .0 .0)) (parts ((c .before .before .before .before .name-end) .given .0 .1 .0)) (parts ((c .before .before .before .before .name-end) .given .0 .1 .1 .0)) ((c .before .before .before .before .name-end) .given .0 .1 .1 .1 .0) (three-found s _ Kind.Position Kind.Position Kind.Position ((c .before .before .before .before .before .before .three-words2) .result) ((c .before .before .before .before .before .before .three-words2) .ensures) ((c .before .before .before .before .name-end) .given .0 .0) ((c .before .before .before .before .name-end) .given .0 .1 .0) ((c .before .before .before .before .name-end) .given .0 .1 .1 .0) ((c .before .before .before .before .name-end) .given .0 .1 .1 .1 .0) ((c .before .before .before .before .name-end) .given .1)) (sym ((c .before .before .word-here) .ensures .is) ∙ ap (word-is s) ((c .enum-told3) .given .1)) }
 
--- src/rows.rt:267:39
 sub-definition-word : tie.Need-sub-definition-word
 sub-definition-word c =
     let in-file = subst (Inside ((c .before .before .before .before .before .before .before .before .before .before .before .before .before .before .args) .file .now)) ((c .before .p) .given .1) ((c .before .before .before .word-here) .ensures .inside) in
     in-file .0
 
--- src/rows.rt:267:39
 part-definition-word-start : tie.Need-part-definition-word-start
 part-definition-word-start c =
     let in-file = subst (Inside ((c .before .before .before .before .before .before .before .before .before .before .before .before .before .before .args) .file .now)) ((c .before .p) .given .1) ((c .before .before .before .word-here) .ensures .inside) in
     omega (arith, in-file)
 
--- src/rows.rt:267:39
 part-definition-word-end : tie.Need-part-definition-word-end
 part-definition-word-end c =
     let in-file = subst (Inside ((c .before .before .before .before .before .before .before .before .before .before .before .before .before .before .args) .file .now)) ((c .before .p) .given .1) ((c .before .before .before .word-here) .ensures .inside) in
     omega (arith, in-file)
 
--- src/rows.rt:267:9
 definition-word-requires : tie.Need-definition-word-requires
 definition-word-requires c κs = search needs
 
--- src/rows.rt:268:9
 definition-number-requires : tie.Need-definition-number-requires
 definition-number-requires c κs = search needs
 
--- src/rows.rt:269:46
 definition-shape-requires : tie.Need-definition-shape-requires
 definition-shape-requires c κs = search needs
 
--- src/rows.rt:269:30
 read-tail-requires : tie.Need-read-tail-requires
 read-tail-requires c κs = ((c .before .before .before .before .before .before .before .before .before .before .before .before .before .before .before .before .before .before .before .pre) .0 .short, (c .before .before .before .before .before .before .before .before .before .before .before .before .before .before .before .before .before .before .before .pre) .0 .room, (c .before .before .before .before .before .before .before .before .before .before .before .before .before .before .before .before .before .before .before .pre) .0 .items)
 
--- src/rows.rt:269:22
 enum-known-tail : tie.Need-enum-known-tail
 enum-known-tail c = search needs
 
--- src/rows.rt:271:9
 enum-told-4 : tie.Need-enum-told-4
 enum-told-4 c = search needs
 
--- src/rows.rt:271:9
 same-length : tie.Need-same-length
 same-length c = search needs
 
--- src/rows.rt:271:9
 returns-4 : tie.Need-returns-4
 returns-4 c =
     let a = (c .before .before .before .before .before .before .before .before .before .before .before .before .before .before .before .before .before .before .before .before .before .before .before .before .args) in
@@ -134,11 +111,9 @@ returns-4 c =
     let tp = tail-put-as {words′ = (c .before .before .before .before .read-tail) .last .1 .1 .1 .0} ((c .before .before .before .before .before .before .definition-shape) .ensures) ((c .before .before .before .before .read-tail) .ensures) in
     record { left = behind-left (a .n) ((c .before .before .before .before .before .before .before .before .before .before .before .before .before .before .before .before .before .before .before .before .before .before .before .before .pre) .0) (tp .behind); line = definition-no-tail s _ (parts ((c .before .before .before .before .before .before .before .before .before .before .before .before .before .before .before .before .before .before .before .scope) .given .0 .0)) (parts ((c .before .before .before .before .before .before .before .before .before .before .before .before .before .before .before .before .before .before .before .scope) .given .0 .1 .0)) (parts ((c .before .before .before .before .before .before .before .before .before .before .before .before .before .before .before .before .before .before .before .scope) .given .0 .1 .1 .0)) ((c .before .before .before .before .before .before .before .before .before .before .before .before .before .before .before .before .before .before .before .scope) .given .0 .1 .1 .1 .0) (three-found s _ Kind.Number Kind.Name Kind.Position ((c .before .before .before .before .before .before .before .before .before .before .before .before .before .before .before .before .before .before .before .before .before .three-words) .result) ((c .before .before .before .before .before .before .before .before .before .before .before .before .before .before .before .before .before .before .before .before .before .three-words) .ensures) ((c .before .before .before .before .before .before .before .before .before .before .before .before .before .before .before .before .before .before .before .scope) .given .0 .0) ((c .before .before .before .before .before .before .before .before .before .before .before .before .before .before .before .before .before .before .before .scope) .given .0 .1 .0) ((c .before .before .before .before .before .before .before .before .before .before .before .before .before .before .before .before .before .before .before .scope) .given .0 .1 .1 .0) ((c .before .before .before .before .before .before .before .before .before .before .before .before .before .before .before .before .before .before .before .scope) .given .0 .1 .1 .1 .0) ((c .before .before .before .before .before .before .before .before .before .before .before .before .before .before .before .before .before .before .before .scope) .given .1)) (parts ((c .before .before .before .before .before .before .before .before .before .before .before .before .before .before .before .name-end) .given .0 .0)) (parts ((c .before .before .before .before .before .before .before .before .before .before .before .before .before .before .before .name-end) .given .0 .1 .0)) (parts ((c .before .before .before .before .before .before .before .before .before .before .before .before .before .before .before .name-end) .given .0 .1 .1 .0)) ((c .before .before .before .before .before .before .before .before .before .before .before .before .before .before .before .name-end) .given .0 .1 .1 .1 .0) (three-found s _ Kind.Position Kind.Position Kind.Position ((c .before .before .before .before .before .before .before .before .before .before .before .before .before .before .before .before .before .three-words2) .result) ((c .before .before .before .before .before .before .before .before .before .before .before .before .before .before .before .before .before .three-words2) .ensures) ((c .before .before .before .before .before .before .before .before .before .before .before .before .before .before .before .name-end) .given .0 .0) ((c .before .before .before .before .before .before .before .before .before .before .before .before .before .before .before .name-end) .given .0 .1 .0) ((c .before .before .before .before .before .before .before .before .before .before .before .before .before .before .before .name-end) .given .0 .1 .1 .0) ((c .before .before .before .before .before .before .before .before .before .before .before .before .before .before .before .name-end) .given .0 .1 .1 .1 .0) ((c .before .before .before .before .before .before .before .before .before .before .before .before .before .before .before .name-end) .given .1)) _ ((c .before .before .before .before .before .before .before .before .before .before .before .p) .given .0 .1 .0) (sym ((c .before .before .before .before .before .before .before .before .before .before .before .before .before .word-here) .ensures .is) ∙ ap (word-is s) ((c .before .before .before .before .before .before .before .before .before .before .before .p) .given .1)) ((c .before .before .before .before .before .before .before .before .definition-word) .result) ((c .before .before .before .before .before .before .before .before .definition-word) .ensures) (tail-none s _ _ _ _ (tp .tail) ((c .enum-told4) .given .1)) }
 
--- src/rows.rt:274:9
 same-length-2 : tie.Need-same-length-2
 same-length-2 c = search needs
 
--- src/rows.rt:274:9
 returns-5 : tie.Need-returns-5
 returns-5 c =
     let a = (c .before .before .before .before .before .before .before .before .before .before .before .before .before .before .before .before .before .before .before .before .before .before .before .before .before .before .args) in
@@ -146,19 +121,15 @@ returns-5 c =
     let tp = tail-put-as {words′ = (c .before .before .before .before .before .before .read-tail) .last .1 .1 .1 .0} ((c .before .before .before .before .before .before .before .before .definition-shape) .ensures) ((c .before .before .before .before .before .before .read-tail) .ensures) in
     record { left = behind-left (a .n) ((c .before .before .before .before .before .before .before .before .before .before .before .before .before .before .before .before .before .before .before .before .before .before .before .before .before .before .pre) .0) (tp .behind); line = definition-no-kind s _ (parts ((c .before .before .before .before .before .before .before .before .before .before .before .before .before .before .before .before .before .before .before .before .before .scope) .given .0 .0)) (parts ((c .before .before .before .before .before .before .before .before .before .before .before .before .before .before .before .before .before .before .before .before .before .scope) .given .0 .1 .0)) (parts ((c .before .before .before .before .before .before .before .before .before .before .before .before .before .before .before .before .before .before .before .before .before .scope) .given .0 .1 .1 .0)) ((c .before .before .before .before .before .before .before .before .before .before .before .before .before .before .before .before .before .before .before .before .before .scope) .given .0 .1 .1 .1 .0) (three-found s _ Kind.Number Kind.Name Kind.Position ((c .before .before .before .before .before .before .before .before .before .before .before .before .before .before .before .before .before .before .before .before .before .before .before .three-words) .result) ((c .before .before .before .before .before .before .before .before .before .before .before .before .before .before .before .before .before .before .before .before .before .before .before .three-words) .ensures) ((c .before .before .before .before .before .before .before .before .before .before .before .before .before .before .before .before .before .before .before .before .before .scope) .given .0 .0) ((c .before .before .before .before .before .before .before .before .before .before .before .before .before .before .before .before .before .before .before .before .before .scope) .given .0 .1 .0) ((c .before .before .before .before .before .before .before .before .before .before .before .before .before .before .before .before .before .before .before .before .before .scope) .given .0 .1 .1 .0) ((c .before .before .before .before .before .before .before .before .before .before .before .before .before .before .before .before .before .before .before .before .before .scope) .given .0 .1 .1 .1 .0) ((c .before .before .before .before .before .before .before .before .before .before .before .before .before .before .before .before .before .before .before .before .before .scope) .given .1)) (parts ((c .before .before .before .before .before .before .before .before .before .before .before .before .before .before .before .before .before .name-end) .given .0 .0)) (parts ((c .before .before .before .before .before .before .before .before .before .before .before .before .before .before .before .before .before .name-end) .given .0 .1 .0)) (parts ((c .before .before .before .before .before .before .before .before .before .before .before .before .before .before .before .before .before .name-end) .given .0 .1 .1 .0)) ((c .before .before .before .before .before .before .before .before .before .before .before .before .before .before .before .before .before .name-end) .given .0 .1 .1 .1 .0) (three-found s _ Kind.Position Kind.Position Kind.Position ((c .before .before .before .before .before .before .before .before .before .before .before .before .before .before .before .before .before .before .before .three-words2) .result) ((c .before .before .before .before .before .before .before .before .before .before .before .before .before .before .before .before .before .before .before .three-words2) .ensures) ((c .before .before .before .before .before .before .before .before .before .before .before .before .before .before .before .before .before .name-end) .given .0 .0) ((c .before .before .before .before .before .before .before .before .before .before .before .before .before .before .before .before .before .name-end) .given .0 .1 .0) ((c .before .before .before .before .before .before .before .before .before .before .before .before .before .before .before .before .before .name-end) .given .0 .1 .1 .0) ((c .before .before .before .before .before .before .before .before .before .before .before .before .before .before .before .before .before .name-end) .given .0 .1 .1 .1 .0) ((c .before .before .before .before .before .before .before .before .before .before .before .before .before .before .before .before .before .name-end) .given .1)) _ ((c .before .before .before .before .before .before .before .before .before .before .before .before .before .p) .given .0 .1 .0) (sym ((c .before .before .before .before .before .before .before .before .before .before .before .before .before .before .before .word-here) .ensures .is) ∙ ap (word-is s) ((c .before .before .before .before .before .before .before .before .before .before .before .before .before .p) .given .1)) ((c .before .before .before .before .before .before .before .before .before .before .definition-word) .result) ((c .before .before .before .before .before .before .before .before .before .before .definition-word) .ensures) (a .n) ((c .before .before .tail) .given .0 .0) (tail-of s _ _ _ (a .n .items) (tp .tail) ((c .before .before .tail) .given .0 .0) ((c .before .before .tail) .given .1)) ((c .before .before .before .before .before .before .before .before .before .before .before .before .before .before .before .before .before .before .before .before .before .before .before .before .before .before .pre) .0 .items) (sym ((c .before .before .before .before .before .before .before .before .before .definition-number) .ensures) ∙ (c .if1) .taken) }
 
--- src/rows.rt:276:25
 cast-path-fits : tie.Need-cast-path-fits
 cast-path-fits c = search needs
 
--- src/rows.rt:276:9
 path-fits-requires : tie.Need-path-fits-requires
 path-fits-requires c κs = search needs
 
--- src/rows.rt:277:9
 same-length-3 : tie.Need-same-length-3
 same-length-3 c = search needs
 
--- src/rows.rt:277:9
 returns-6 : tie.Need-returns-6
 returns-6 c =
     let a = (c .before .before .before .before .before .before .before .before .before .before .before .before .before .before .before .before .before .before .before .before .before .before .before .before .before .before .before .before .before .args) in
@@ -167,75 +138,57 @@ returns-6 c =
     let x = (c .before .before .before .before .before .tail) .given .0 .0 in
     record { left = behind-left (a .n) ((c .before .before .before .before .before .before .before .before .before .before .before .before .before .before .before .before .before .before .before .before .before .before .before .before .before .before .before .before .before .pre) .0) (tp .behind); line = definition-no-path s _ (parts ((c .before .before .before .before .before .before .before .before .before .before .before .before .before .before .before .before .before .before .before .before .before .before .before .before .scope) .given .0 .0)) (parts ((c .before .before .before .before .before .before .before .before .before .before .before .before .before .before .before .before .before .before .before .before .before .before .before .before .scope) .given .0 .1 .0)) (parts ((c .before .before .before .before .before .before .before .before .before .before .before .before .before .before .before .before .before .before .before .before .before .before .before .before .scope) .given .0 .1 .1 .0)) ((c .before .before .before .before .before .before .before .before .before .before .before .before .before .before .before .before .before .before .before .before .before .before .before .before .scope) .given .0 .1 .1 .1 .0) (three-found s _ Kind.Number Kind.Name Kind.Position ((c .before .before .before .before .before .before .before .before .before .before .before .before .before .before .before .before .before .before .before .before .before .before .before .before .before .before .three-words) .result) ((c .before .before .before .before .before .before .before .before .before .before .before .before .before .before .before .before .before .before .before .before .before .before .before .before .before .before .three-words) .ensures) ((c .before .before .before .before .before .before .before .before .before .before .before .before .before .before .before .before .before .before .before .before .before .before .before .before .scope) .given .0 .0) ((c .before .before .before .before .before .before .before .before .before .before .before .before .before .before .before .before .before .before .before .before .before .before .before .before .scope) .given .0 .1 .0) ((c .before .before .before .before .before .before .before .before .before .before .before .before .before .before .before .before .before .before .before .before .before .before .before .before .scope) .given .0 .1 .1 .0) ((c .before .before .before .before .before .before .before .before .before .before .before .before .before .before .before .before .before .before .before .before .before .before .before .before .scope) .given .0 .1 .1 .1 .0) ((c .before .before .before .before .before .before .before .before .before .before .before .before .before .before .before .before .before .before .before .before .before .before .before .before .scope) .given .1)) (parts ((c .before .before .before .before .before .before .before .before .before .before .before .before .before .before .before .before .before .before .before .before .name-end) .given .0 .0)) (parts ((c .before .before .before .before .before .before .before .before .before .before .before .before .before .before .before .before .before .before .before .before .name-end) .given .0 .1 .0)) (parts ((c .before .before .before .before .before .before .before .before .before .before .before .before .before .before .before .before .before .before .before .before .name-end) .given .0 .1 .1 .0)) ((c .before .before .before .before .before .before .before .before .before .before .before .before .before .before .before .before .before .before .before .before .name-end) .given .0 .1 .1 .1 .0) (three-found s _ Kind.Position Kind.Position Kind.Position ((c .before .before .before .before .before .before .before .before .before .before .before .before .before .before .before .before .before .before .before .before .before .before .three-words2) .result) ((c .before .before .before .before .before .before .before .before .before .before .before .before .before .before .before .before .before .before .before .before .before .before .three-words2) .ensures) ((c .before .before .before .before .before .before .before .before .before .before .before .before .before .before .before .before .before .before .before .before .name-end) .given .0 .0) ((c .before .before .before .before .before .before .before .before .before .before .before .before .before .before .before .before .before .before .before .before .name-end) .given .0 .1 .0) ((c .before .before .before .before .before .before .before .before .before .before .before .before .before .before .before .before .before .before .before .before .name-end) .given .0 .1 .1 .0) ((c .before .before .before .before .before .before .before .before .before .before .before .before .before .before .before .before .before .before .before .before .name-end) .given .0 .1 .1 .1 .0) ((c .before .before .before .before .before .before .before .before .before .before .before .before .before .before .before .before .before .before .before .before .name-end) .given .1)) _ ((c .before .before .before .before .before .before .before .before .before .before .before .before .before .before .before .before .p) .given .0 .1 .0) (sym ((c .before .before .before .before .before .before .before .before .before .before .before .before .before .before .before .before .before .before .word-here) .ensures .is) ∙ ap (word-is s) ((c .before .before .before .before .before .before .before .before .before .before .before .before .before .before .before .before .p) .given .1)) ((c .before .before .before .before .before .before .before .before .before .before .before .before .before .definition-word) .result) ((c .before .before .before .before .before .before .before .before .before .before .before .before .before .definition-word) .ensures) (a .n) x (tail-of s _ _ _ (a .n .items) (tp .tail) ((c .before .before .before .before .before .tail) .given .0 .0) ((c .before .before .before .before .before .tail) .given .1)) ((c .before .before .before .before .before .before .before .before .before .before .before .before .before .before .before .before .before .before .before .before .before .before .before .before .before .before .before .before .before .pre) .0 .items) (ap (λ k. path-fits k (parts (x .c) .low) (x .count)) (sym ((c .before .before .before .before .before .before .before .before .before .before .before .before .definition-number) .ensures)) ∙ sym ((c .before .path-fits) .ensures) ∙ not-yes _ ((c .if2) .taken)) }
 
--- src/rows.rt:279:38
 mul-row : tie.Need-mul-row
 mul-row c = omega (arith, (c .before .before .before .before .before .before .before .before .before .before .before .before .before .before .before .before .before .before .before .before .before .before .before .before .before .before .before .before .before .before .pre) .1)
 
--- src/rows.rt:279:15
 add-row : tie.Need-add-row
 add-row c = omega (arith, (c .before .before .before .before .before .before .before .before .before .before .before .before .before .before .before .before .before .before .before .before .before .before .before .before .before .before .before .before .before .before .pre) .1)
 
--- src/rows.rt:280:32
 cast-put-four : tie.Need-cast-put-four
 cast-put-four c = search needs
 
--- src/rows.rt:280:55
 cast-put-four-2 : tie.Need-cast-put-four-2
 cast-put-four-2 c = search needs
 
--- src/rows.rt:280:77
 cast-put-four-3 : tie.Need-cast-put-four-3
 cast-put-four-3 c = search needs
 
--- src/rows.rt:280:5
 put-four-requires : tie.Need-put-four-requires
 put-four-requires c κs = omega (arith, (c .before .before .before .before .before .before .before .before .before .before .before .before .before .before .before .before .before .before .before .before .before .before .before .before .before .before .before .before .before .before .before .pre) .0 .room, (c .before .before .before .before .before .before .before .before .before .before .before .before .before .before .before .before .before .before .before .before .before .before .before .before .before .before .before .before .before .before .before .pre) .1, (c .before .before .before .before .before .before .before .before .before .before .before .read-tail) .ensures .behind .long)
 
--- src/rows.rt:283:9
 add-put-four : tie.Need-add-put-four
 add-put-four c = omega (arith, (c .before .before .before .before .before .before .before .before .before .before .before .before .before .before .before .before .before .before .before .before .before .before .before .before .before .before .before .before .before .before .before .before .before .before .before .pre) .1)
 
--- src/rows.rt:284:9
 cast-put-four-4 : tie.Need-cast-put-four-4
 cast-put-four-4 c = search needs
 
--- src/rows.rt:285:9
 cast-put-four-5 : tie.Need-cast-put-four-5
 cast-put-four-5 c = search needs
 
--- src/rows.rt:286:9
 cast-put-four-6 : tie.Need-cast-put-four-6
 cast-put-four-6 c = search needs
 
--- src/rows.rt:287:9
 cast-put-four-7 : tie.Need-cast-put-four-7
 cast-put-four-7 c = search needs
 
--- src/rows.rt:281:5
 put-four-requires-2 : tie.Need-put-four-requires-2
 put-four-requires-2 c κs = omega (arith, (c .before .before .before .before .before .before .before .before .before .before .before .before .before .before .before .before .before .before .before .before .before .before .before .before .before .before .before .before .before .before .before .before .before .before .before .before .pre) .0 .room, (c .before .before .before .before .before .before .before .before .before .before .before .before .before .before .before .before .before .before .before .before .before .before .before .before .before .before .before .before .before .before .before .before .before .before .before .before .pre) .1, (c .before .before .before .before .before .before .before .before .before .before .before .before .before .before .before .before .read-tail) .ensures .behind .long, (c .before .before .before .before .put-four) .ensures .long)
 
--- src/rows.rt:289:21
 add-put-four-2 : tie.Need-add-put-four-2
 add-put-four-2 c = omega (arith, (c .before .before .before .before .before .before .before .before .before .before .before .before .before .before .before .before .before .before .before .before .before .before .before .before .before .before .before .before .before .before .before .before .before .before .before .before .before .before .before .before .pre) .1)
 
--- src/rows.rt:289:30
 cast-put-four-8 : tie.Need-cast-put-four-8
 cast-put-four-8 c = search needs
 
--- src/rows.rt:289:54
 cast-put-four-9 : tie.Need-cast-put-four-9
 cast-put-four-9 c = search needs
 
--- src/rows.rt:289:5
 put-four-requires-3 : tie.Need-put-four-requires-3
 put-four-requires-3 c κs = omega (arith, (c .before .before .before .before .before .before .before .before .before .before .before .before .before .before .before .before .before .before .before .before .before .before .before .before .before .before .before .before .before .before .before .before .before .before .before .before .before .before .before .before .before .before .pre) .0 .room, (c .before .before .before .before .before .before .before .before .before .before .before .before .before .before .before .before .before .before .before .before .before .before .before .before .before .before .before .before .before .before .before .before .before .before .before .before .before .before .before .before .before .before .pre) .1, (c .before .before .before .before .before .before .before .before .before .before .before .before .before .before .before .before .before .before .before .before .before .before .read-tail) .ensures .behind .long, (c .before .before .before .before .before .before .before .before .before .before .put-four) .ensures .long, (c .before .before .before .before .before .put-four2) .ensures .long)
 
--- src/rows.rt:242:1
 same-length-4 : tie.Need-same-length-4
 same-length-4 c = c .before .before .put-four3 .ensures .long ∙ c .before .before .before .before .before .before .before .before .put-four2 .ensures .long ∙ c .before .before .before .before .before .before .before .before .before .before .before .before .before .put-four .ensures .long ∙ c .before .before .before .before .before .before .before .before .before .before .before .before .before .before .before .before .before .before .before .before .before .before .before .before .before .read-tail .ensures .behind .long
 
--- src/rows.rt:242:1
 returns-7 : tie.Need-returns-7
 returns-7 c =
     let a = (c .before .before .before .before .before .before .before .before .before .before .before .before .before .before .before .before .before .before .before .before .before .before .before .before .before .before .before .before .before .before .before .before .before .before .before .before .before .before .before .before .before .before .before .before .before .args) in

@@ -1,8 +1,8 @@
 -- `loader::rows::read_module` meets its contract. Assumes nothing.
-use mathlib.Core.Path.{sym, ap, subst, _∙_}
+use mathlib.Core.Path.{_∙_}
 use native.Mathlib.Omega.{arith}
 use Rattle.loader.proofs.Tailing.{tail-of, tail-none, tail-put-as}
-use Rattle.loader.proofs.Leaving.{left-self, behind-left}
+use Rattle.loader.proofs.Leaving.{behind-left}
 use Rattle.loader.proofs.ScopeLines.{module-no-tail, module-put-as}
 use borrow.Author.Needs.{needs}
 use Rattle.loader.proofs.rows.read_module.Statement.{statement}
@@ -13,27 +13,21 @@ use Rattle.loader.proofs.rows.put_two.Reads as put-two-reads
 use Rattle.loader.proofs.rows.read_tail.Reads as read-tail-reads
 use Rattle.loader.proofs.shapes.module_shape.Reads as module-shape-reads
 
--- src/rows.rt:152:46
 module-shape-requires : tie.Need-module-shape-requires
 module-shape-requires c κs = search needs
 
--- src/rows.rt:152:30
 read-tail-requires : tie.Need-read-tail-requires
 read-tail-requires c κs = search needs
 
--- src/rows.rt:152:22
 enum-known-tail : tie.Need-enum-known-tail
 enum-known-tail c = search needs
 
--- src/rows.rt:153:9
 enum-told : tie.Need-enum-told
 enum-told c = search needs
 
--- src/rows.rt:153:9
 same-length : tie.Need-same-length
 same-length c = search needs
 
--- src/rows.rt:153:9
 returns : tie.Need-returns
 returns c =
     let a = (c .before .before .before .before .before .before .before .before .before .args) in
@@ -41,59 +35,45 @@ returns c =
     let tp = tail-put-as {words′ = (c .before .before .before .before .read-tail) .last .1 .1 .1 .0} ((c .before .before .before .before .before .before .module-shape) .ensures) ((c .before .before .before .before .read-tail) .ensures) in
     record { left = behind-left (a .n) ((c .before .before .before .before .before .before .before .before .before .pre) .0) (tp .behind); line = module-no-tail s _ (tail-none s _ _ _ _ (tp .tail) ((c .enum-told) .given .1)) }
 
--- src/rows.rt:155:34
 mul-row : tie.Need-mul-row
 mul-row c = search needs
 
--- src/rows.rt:155:15
 add-row : tie.Need-add-row
 add-row c = search needs
 
--- src/rows.rt:156:25
 cast-put-two : tie.Need-cast-put-two
 cast-put-two c = search needs
 
--- src/rows.rt:156:49
 cast-put-two-2 : tie.Need-cast-put-two-2
 cast-put-two-2 c = omega (arith, c .before .before .before .before .before .before .before .before .before .before .before .before .before .before .pre .0 .scopes)
 
--- src/rows.rt:156:5
 put-two-requires : tie.Need-put-two-requires
 put-two-requires c κs = omega (arith, (c .before .before .before .before .before .before .before .before .before .before .before .before .before .before .pre) .0 .room, (c .before .before .before .before .before .before .before .before .before .before .before .before .before .before .pre) .1, (c .before .before .before .before .before .before .before .before .before .read-tail) .ensures .behind .long)
 
--- src/rows.rt:157:20
 add-put-two : tie.Need-add-put-two
 add-put-two c = omega (arith, (c .before .before .before .before .before .before .before .before .before .before .before .before .before .before .before .before .before .before .pre) .1)
 
--- src/rows.rt:157:29
 cast-put-two-3 : tie.Need-cast-put-two-3
 cast-put-two-3 c = omega (arith, c .before .before .before .before .before .before .before .before .before .before .before .before .before .before .before .before .before .before .before .pre .0 .types)
 
--- src/rows.rt:157:45
 cast-put-two-4 : tie.Need-cast-put-two-4
 cast-put-two-4 c = omega (arith, c .before .before .before .before .before .before .before .before .before .before .before .before .before .before .before .before .before .before .before .before .pre .0 .definitions)
 
--- src/rows.rt:157:5
 put-two-requires-2 : tie.Need-put-two-requires-2
 put-two-requires-2 c κs = omega (arith, (c .before .before .before .before .before .before .before .before .before .before .before .before .before .before .before .before .before .before .before .before .pre) .0 .room, (c .before .before .before .before .before .before .before .before .before .before .before .before .before .before .before .before .before .before .before .before .pre) .1, (c .before .before .before .before .before .before .before .before .before .before .before .before .before .before .before .read-tail) .ensures .behind .long, (c .before .before .before .before .before .put-two) .ensures .long)
 
--- src/rows.rt:158:20
 add-put-two-2 : tie.Need-add-put-two-2
 add-put-two-2 c = omega (arith, (c .before .before .before .before .before .before .before .before .before .before .before .before .before .before .before .before .before .before .before .before .before .before .before .before .pre) .1)
 
--- src/rows.rt:158:29
 cast-put-two-5 : tie.Need-cast-put-two-5
 cast-put-two-5 c = omega (arith, c .before .before .before .before .before .before .before .before .before .before .before .before .before .before .before .before .before .before .before .before .before .before .before .before .before .pre .0 .expressions)
 
--- src/rows.rt:158:5
 put-two-requires-3 : tie.Need-put-two-requires-3
 put-two-requires-3 c κs = omega (arith, (c .before .before .before .before .before .before .before .before .before .before .before .before .before .before .before .before .before .before .before .before .before .before .before .before .before .pre) .0 .room, (c .before .before .before .before .before .before .before .before .before .before .before .before .before .before .before .before .before .before .before .before .before .before .before .before .before .pre) .1, (c .before .before .before .before .before .before .before .before .before .before .before .before .before .before .before .before .before .before .before .before .read-tail) .ensures .behind .long, (c .before .before .before .before .before .before .before .before .before .before .put-two) .ensures .long, (c .before .before .before .before .put-two2) .ensures .long)
 
--- src/rows.rt:148:1
 same-length-2 : tie.Need-same-length-2
 same-length-2 c = (c .before .before .put-two3) .ensures .long ∙ (c .before .before .before .before .before .before .before .put-two2) .ensures .long ∙ (c .before .before .before .before .before .before .before .before .before .before .before .before .before .put-two) .ensures .long ∙ (c .before .before .before .before .before .before .before .before .before .before .before .before .before .before .before .before .before .before .before .before .before .before .before .read-tail) .ensures .behind .long
 
--- src/rows.rt:148:1
 returns-2 : tie.Need-returns-2
 returns-2 c =
     let a = (c .before .before .before .before .before .before .before .before .before .before .before .before .before .before .before .before .before .before .before .before .before .before .before .before .before .before .before .before .args) in

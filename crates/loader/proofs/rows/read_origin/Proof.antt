@@ -20,68 +20,54 @@ use Rattle.loader.proofs.shapes.origin_shape.Reads as origin-shape-read
 use Rattle.loader.proofs.values.three_words.Reads as three-words-reads
 use Rattle.words.proofs.origin_word.Reads as origin-word-reads
 
--- src/rows.rt:330:26
 word-here-requires : tie.Need-word-here-requires
 word-here-requires c κs = search needs
 
--- src/rows.rt:330:18
 enum-known-p : tie.Need-enum-known-p
 enum-known-p c = search needs
 
--- src/rows.rt:331:9
 enum-told : tie.Need-enum-told
 enum-told c = search needs
 
--- src/rows.rt:331:9
 returns : tie.Need-returns
 returns c =
     let a = (c .before .before .before .before .args) in
     let s = a .file .now in
     origin-no-word s _ (sym ((c .before .before .word-here) .ensures .is) ∙ ap (word-is s) ((c .enum-told) .given .1))
 
--- src/rows.rt:333:35
 sub-origin-word : tie.Need-sub-origin-word
 sub-origin-word c =
     let in-file = subst (Inside ((c .before .before .before .before .before .args) .file .now)) ((c .before .p) .given .1) ((c .before .before .before .word-here) .ensures .inside) in
     in-file .0
 
--- src/rows.rt:333:35
 part-origin-word-start : tie.Need-part-origin-word-start
 part-origin-word-start c =
     let in-file = subst (Inside ((c .before .before .before .before .before .args) .file .now)) ((c .before .p) .given .1) ((c .before .before .before .word-here) .ensures .inside) in
     omega (arith, in-file)
 
--- src/rows.rt:333:35
 part-origin-word-end : tie.Need-part-origin-word-end
 part-origin-word-end c =
     let in-file = subst (Inside ((c .before .before .before .before .before .args) .file .now)) ((c .before .p) .given .1) ((c .before .before .before .word-here) .ensures .inside) in
     omega (arith, in-file)
 
--- src/rows.rt:333:9
 origin-word-requires : tie.Need-origin-word-requires
 origin-word-requires c κs = search needs
 
--- src/rows.rt:334:9
 origin-number-requires : tie.Need-origin-number-requires
 origin-number-requires c κs = search needs
 
--- src/rows.rt:335:9
 origin-shape-requires : tie.Need-origin-shape-requires
 origin-shape-requires c κs = search needs
 
--- src/rows.rt:338:46
 three-words-requires : tie.Need-three-words-requires
 three-words-requires c κs = search needs
 
--- src/rows.rt:338:25
 enum-known-link : tie.Need-enum-known-link
 enum-known-link c = search needs
 
--- src/rows.rt:340:9
 enum-told-2 : tie.Need-enum-told-2
 enum-told-2 c = search needs
 
--- src/rows.rt:340:9
 returns-2 : tie.Need-returns-2
 returns-2 c =
     let a = (c .before .before .before .before .before .before .before .before .before .before .before .before .args) in
@@ -89,7 +75,6 @@ returns-2 c =
     let th = subst (λ k. three-words-is (k .a) (k .b) Kind.Nothing s ((c .before .before .three-words) .result) ≡ tails.three (k .a) (k .b) Kind.Nothing (drop ((c .before .before .before .before .before .before .before .before .p) .given .0 .1 .0) s)) ((c .before .before .before .origin-shape) .ensures) ((c .before .before .three-words) .ensures) in
     origin-no-three s _ _ ((c .before .before .before .before .before .before .before .before .p) .given .0 .1 .0) (sym ((c .before .before .before .before .before .before .before .before .before .before .word-here) .ensures .is) ∙ ap (word-is s) ((c .before .before .before .before .before .before .before .before .p) .given .1)) ((c .before .before .before .before .before .origin-word) .result) ((c .before .before .before .before .before .origin-word) .ensures) (three-lost s _ (origin-shape ((c .before .before .before .before .before .origin-word) .result) .a) (origin-shape ((c .before .before .before .before .before .origin-word) .result) .b) Kind.Nothing ((c .before .before .three-words) .result) th ((c .enum-told2) .given .1))
 
--- src/rows.rt:343:9
 returns-3 : tie.Need-returns-3
 returns-3 c =
     let a = (c .before .before .before .before .before .before .before .before .before .before .before .before .before .before .args) in
@@ -97,15 +82,12 @@ returns-3 c =
     let th = subst (λ k. three-words-is (k .a) (k .b) Kind.Nothing s ((c .before .before .before .before .three-words) .result) ≡ tails.three (k .a) (k .b) Kind.Nothing (drop ((c .before .before .before .before .before .before .before .before .before .before .p) .given .0 .1 .0) s)) ((c .before .before .before .before .before .origin-shape) .ensures) ((c .before .before .before .before .three-words) .ensures) in
     origin-no-kind s _ _ ((c .before .before .before .before .before .before .before .before .before .before .p) .given .0 .1 .0) (sym ((c .before .before .before .before .before .before .before .before .before .before .before .before .word-here) .ensures .is) ∙ ap (word-is s) ((c .before .before .before .before .before .before .before .before .before .before .p) .given .1)) ((c .before .before .before .before .before .before .before .origin-word) .result) ((c .before .before .before .before .before .before .before .origin-word) .ensures) (parts ((c .before .before .link) .given .0 .0)) (parts ((c .before .before .link) .given .0 .1 .0)) (parts ((c .before .before .link) .given .0 .1 .1 .0)) ((c .before .before .link) .given .0 .1 .1 .1 .0) (three-found s _ (origin-shape ((c .before .before .before .before .before .before .before .origin-word) .result) .a) (origin-shape ((c .before .before .before .before .before .before .before .origin-word) .result) .b) Kind.Nothing ((c .before .before .before .before .three-words) .result) th ((c .before .before .link) .given .0 .0) ((c .before .before .link) .given .0 .1 .0) ((c .before .before .link) .given .0 .1 .1 .0) ((c .before .before .link) .given .0 .1 .1 .1 .0) ((c .before .before .link) .given .1)) (sym ((c .before .before .before .before .before .before .origin-number) .ensures) ∙ (c .if1) .taken)
 
--- src/rows.rt:345:26
 cast-t22 : tie.Need-cast-t22
 cast-t22 c = search needs
 
--- src/rows.rt:345:48
 cast-t24 : tie.Need-cast-t24
 cast-t24 c = search needs
 
--- src/rows.rt:326:1
 returns-4 : tie.Need-returns-4
 returns-4 c =
     let a = (c .before .before .before .before .before .before .before .before .before .before .before .before .before .before .args) in

@@ -18,72 +18,57 @@ use Rattle.loader.proofs.shapes.question_number.Reads as question-numbe
 use Rattle.loader.proofs.shapes.question_shape.Reads as question-shape-reads
 use Rattle.words.proofs.question_word.Reads as question-word-reads
 
--- src/rows.rt:298:26
 word-here-requires : tie.Need-word-here-requires
 word-here-requires c κs = search needs
 
--- src/rows.rt:298:18
 enum-known-p : tie.Need-enum-known-p
 enum-known-p c = search needs
 
--- src/rows.rt:299:9
 enum-told : tie.Need-enum-told
 enum-told c = search needs
 
--- src/rows.rt:299:9
 returns : tie.Need-returns
 returns c =
     let a = (c .before .before .before .before .before .args) in
     let s = a .file .now in
     record { left = left-self (a .n) _; line = question-no-word s _ (sym ((c .before .before .word-here) .ensures .is) ∙ ap (word-is s) ((c .enum-told) .given .1)) }
 
--- src/rows.rt:301:37
 sub-question-word : tie.Need-sub-question-word
 sub-question-word c =
     let in-file = subst (Inside ((c .before .before .before .before .before .before .args) .file .now)) ((c .before .p) .given .1) ((c .before .before .before .word-here) .ensures .inside) in
     in-file .0
 
--- src/rows.rt:301:37
 part-question-word-start : tie.Need-part-question-word-start
 part-question-word-start c =
     let in-file = subst (Inside ((c .before .before .before .before .before .before .args) .file .now)) ((c .before .p) .given .1) ((c .before .before .before .word-here) .ensures .inside) in
     omega (arith, in-file)
 
--- src/rows.rt:301:37
 part-question-word-end : tie.Need-part-question-word-end
 part-question-word-end c =
     let in-file = subst (Inside ((c .before .before .before .before .before .before .args) .file .now)) ((c .before .p) .given .1) ((c .before .before .before .word-here) .ensures .inside) in
     omega (arith, in-file)
 
--- src/rows.rt:301:9
 question-word-requires : tie.Need-question-word-requires
 question-word-requires c κs = search needs
 
--- src/rows.rt:302:9
 question-number-requires : tie.Need-question-number-requires
 question-number-requires c κs = search needs
 
--- src/rows.rt:303:46
 question-shape-requires : tie.Need-question-shape-requires
 question-shape-requires c κs = search needs
 
--- src/rows.rt:303:30
 read-tail-requires : tie.Need-read-tail-requires
 read-tail-requires c κs = search needs
 
--- src/rows.rt:303:22
 enum-known-tail : tie.Need-enum-known-tail
 enum-known-tail c = search needs
 
--- src/rows.rt:304:9
 enum-told-2 : tie.Need-enum-told-2
 enum-told-2 c = search needs
 
--- src/rows.rt:304:9
 same-length : tie.Need-same-length
 same-length c = search needs
 
--- src/rows.rt:304:9
 returns-2 : tie.Need-returns-2
 returns-2 c =
     let a = (c .before .before .before .before .before .before .before .before .before .before .before .before .before .before .before .before .args) in
@@ -91,11 +76,9 @@ returns-2 c =
     let tp = tail-put-as {words′ = (c .before .before .before .before .read-tail) .last .1 .1 .1 .0} ((c .before .before .before .before .before .before .question-shape) .ensures) ((c .before .before .before .before .read-tail) .ensures) in
     record { left = behind-left (a .n) ((c .before .before .before .before .before .before .before .before .before .before .before .before .before .before .before .before .pre) .0) (tp .behind); line = question-no-tail s _ _ ((c .before .before .before .before .before .before .before .before .before .before .before .p) .given .0 .1 .0) (sym ((c .before .before .before .before .before .before .before .before .before .before .before .before .before .word-here) .ensures .is) ∙ ap (word-is s) ((c .before .before .before .before .before .before .before .before .before .before .before .p) .given .1)) ((c .before .before .before .before .before .before .before .before .question-word) .result) ((c .before .before .before .before .before .before .before .before .question-word) .ensures) (tail-none s _ _ _ _ (tp .tail) ((c .enum-told2) .given .1)) }
 
--- src/rows.rt:307:9
 same-length-2 : tie.Need-same-length-2
 same-length-2 c = search needs
 
--- src/rows.rt:307:9
 returns-3 : tie.Need-returns-3
 returns-3 c =
     let a = (c .before .before .before .before .before .before .before .before .before .before .before .before .before .before .before .before .before .before .args) in
@@ -103,35 +86,27 @@ returns-3 c =
     let tp = tail-put-as {words′ = (c .before .before .before .before .before .before .read-tail) .last .1 .1 .1 .0} ((c .before .before .before .before .before .before .before .before .question-shape) .ensures) ((c .before .before .before .before .before .before .read-tail) .ensures) in
     record { left = behind-left (a .n) ((c .before .before .before .before .before .before .before .before .before .before .before .before .before .before .before .before .before .before .pre) .0) (tp .behind); line = question-no-kind s _ _ ((c .before .before .before .before .before .before .before .before .before .before .before .before .before .p) .given .0 .1 .0) (sym ((c .before .before .before .before .before .before .before .before .before .before .before .before .before .before .before .word-here) .ensures .is) ∙ ap (word-is s) ((c .before .before .before .before .before .before .before .before .before .before .before .before .before .p) .given .1)) ((c .before .before .before .before .before .before .before .before .before .before .question-word) .result) ((c .before .before .before .before .before .before .before .before .before .before .question-word) .ensures) (a .n) ((c .before .before .tail) .given .0 .0) (tail-of s _ _ _ (a .n .items) (tp .tail) ((c .before .before .tail) .given .0 .0) ((c .before .before .tail) .given .1)) (sym ((c .before .before .before .before .before .before .before .before .before .question-number) .ensures) ∙ (c .if1) .taken) }
 
--- src/rows.rt:311:30
 mul-put-four : tie.Need-mul-put-four
 mul-put-four c = omega (arith, (c .before .before .before .before .before .before .before .before .before .before .before .before .before .before .before .before .before .before .before .before .pre) .1)
 
--- src/rows.rt:311:9
 add-put-four : tie.Need-add-put-four
 add-put-four c = omega (arith, (c .before .before .before .before .before .before .before .before .before .before .before .before .before .before .before .before .before .before .before .before .pre) .1)
 
--- src/rows.rt:313:9
 cast-put-four : tie.Need-cast-put-four
 cast-put-four c = search needs
 
--- src/rows.rt:314:9
 cast-put-four-2 : tie.Need-cast-put-four-2
 cast-put-four-2 c = search needs
 
--- src/rows.rt:315:9
 cast-put-four-3 : tie.Need-cast-put-four-3
 cast-put-four-3 c = search needs
 
--- src/rows.rt:309:5
 put-four-requires : tie.Need-put-four-requires
 put-four-requires c κs = omega (arith, (c .before .before .before .before .before .before .before .before .before .before .before .before .before .before .before .before .before .before .before .before .before .before .before .pre) .0 .room, (c .before .before .before .before .before .before .before .before .before .before .before .before .before .before .before .before .before .before .before .before .before .before .before .pre) .1, (c .before .before .before .before .before .before .before .before .before .before .before .read-tail) .ensures .behind .long)
 
--- src/rows.rt:294:1
 same-length-3 : tie.Need-same-length-3
 same-length-3 c = search needs
 
--- src/rows.rt:294:1
 returns-4 : tie.Need-returns-4
 returns-4 c =
     let a = (c .before .before .before .before .before .before .before .before .before .before .before .before .before .before .before .before .before .before .before .before .before .before .before .before .before .before .args) in

@@ -3,8 +3,6 @@ use mathlib.Core.Path.{sym, ap, subst, _∙_}
 use native.Mathlib.Omega.{arith}
 use Rattle.fields.specs.Held.{word-is, Inside}
 use Rattle.loader.proofs.Tailing.{tail-of, tail-none, tail-put-as}
-use mathlib.Core.List.{[], _∷_}
-use Rattle.records.specs.Promises.{Put}
 use Rattle.format.specs.declared.Kind.{Kind}
 use Rattle.loader.specs.Values.{parts}
 use Rattle.loader.proofs.Holding.{words-found, words-lost}
@@ -25,87 +23,69 @@ use Rattle.loader.proofs.shapes.scope_number.Reads as scope-number-read
 use Rattle.loader.proofs.values.slot_words.Reads as slot-words-reads
 use Rattle.words.proofs.scope_word.Reads as scope-word-reads
 
--- src/rows.rt:179:37
 slot-words-requires : tie.Need-slot-words-requires
 slot-words-requires c κs = search needs
 
--- src/rows.rt:179:24
 enum-known-parent : tie.Need-enum-known-parent
 enum-known-parent c = search needs
 
--- src/rows.rt:180:9
 enum-told : tie.Need-enum-told
 enum-told c = search needs
 
--- src/rows.rt:180:9
 returns : tie.Need-returns
 returns c =
     let a = (c .before .before .before .before .before .args) in
     let s = a .file .now in
     record { left = left-self (a .n) _; line = scope-no-parent s _ (words-lost s _ Kind.MaybeNumber ((c .before .before .slot-words) .result) ((c .before .before .slot-words) .ensures) ((c .enum-told) .given .1)) }
 
--- src/rows.rt:182:26
 word-here-requires : tie.Need-word-here-requires
 word-here-requires c κs = search needs
 
--- src/rows.rt:182:18
 enum-known-p : tie.Need-enum-known-p
 enum-known-p c = search needs
 
--- src/rows.rt:183:9
 enum-told-2 : tie.Need-enum-told-2
 enum-told-2 c = search needs
 
--- src/rows.rt:183:9
 returns-2 : tie.Need-returns-2
 returns-2 c =
     let a = (c .before .before .before .before .before .before .before .before .before .args) in
     let s = a .file .now in
     record { left = left-self (a .n) _; line = scope-no-word s _ (parts ((c .before .before .before .before .parent) .given .0 .0) .low) ((c .before .before .before .before .parent) .given .0 .1 .0) (words-found s _ Kind.MaybeNumber ((c .before .before .before .before .before .before .slot-words) .result) ((c .before .before .before .before .before .before .slot-words) .ensures) ((c .before .before .before .before .parent) .given .0 .0) ((c .before .before .before .before .parent) .given .0 .1 .0) ((c .before .before .before .before .parent) .given .1)) (sym ((c .before .before .word-here) .ensures .is) ∙ ap (word-is s) ((c .enum-told2) .given .1)) }
 
--- src/rows.rt:185:34
 sub-scope-word : tie.Need-sub-scope-word
 sub-scope-word c =
     let in-file = subst (Inside ((c .before .before .before .before .before .before .before .before .before .before .args) .file .now)) ((c .before .p) .given .1) ((c .before .before .before .word-here) .ensures .inside) in
     in-file .0
 
--- src/rows.rt:185:34
 part-scope-word-start : tie.Need-part-scope-word-start
 part-scope-word-start c =
     let in-file = subst (Inside ((c .before .before .before .before .before .before .before .before .before .before .args) .file .now)) ((c .before .p) .given .1) ((c .before .before .before .word-here) .ensures .inside) in
     omega (arith, in-file)
 
--- src/rows.rt:185:34
 part-scope-word-end : tie.Need-part-scope-word-end
 part-scope-word-end c =
     let in-file = subst (Inside ((c .before .before .before .before .before .before .before .before .before .before .args) .file .now)) ((c .before .p) .given .1) ((c .before .before .before .word-here) .ensures .inside) in
     omega (arith, in-file)
 
--- src/rows.rt:185:9
 scope-word-requires : tie.Need-scope-word-requires
 scope-word-requires c κs = search needs
 
--- src/rows.rt:186:46
 bare-requires : tie.Need-bare-requires
 bare-requires c κs = search needs
 
--- src/rows.rt:186:30
 read-tail-requires : tie.Need-read-tail-requires
 read-tail-requires c κs = search needs
 
--- src/rows.rt:186:22
 enum-known-tail : tie.Need-enum-known-tail
 enum-known-tail c = search needs
 
--- src/rows.rt:187:9
 enum-told-3 : tie.Need-enum-told-3
 enum-told-3 c = search needs
 
--- src/rows.rt:187:9
 same-length : tie.Need-same-length
 same-length c = search needs
 
--- src/rows.rt:187:9
 returns-3 : tie.Need-returns-3
 returns-3 c =
     let a = (c .before .before .before .before .before .before .before .before .before .before .before .before .before .before .before .before .before .before .before .args) in
@@ -113,19 +93,15 @@ returns-3 c =
     let tp = tail-put-as {words′ = (c .before .before .before .before .read-tail) .last .1 .1 .1 .0} ((c .before .before .before .before .before .before .bare) .ensures) ((c .before .before .before .before .read-tail) .ensures) in
     record { left = behind-left (a .n) ((c .before .before .before .before .before .before .before .before .before .before .before .before .before .before .before .before .before .before .before .pre) .0) (tp .behind); line = scope-no-tail s _ (parts ((c .before .before .before .before .before .before .before .before .before .before .before .before .before .before .parent) .given .0 .0) .low) ((c .before .before .before .before .before .before .before .before .before .before .before .before .before .before .parent) .given .0 .1 .0) (words-found s _ Kind.MaybeNumber ((c .before .before .before .before .before .before .before .before .before .before .before .before .before .before .before .before .slot-words) .result) ((c .before .before .before .before .before .before .before .before .before .before .before .before .before .before .before .before .slot-words) .ensures) ((c .before .before .before .before .before .before .before .before .before .before .before .before .before .before .parent) .given .0 .0) ((c .before .before .before .before .before .before .before .before .before .before .before .before .before .before .parent) .given .0 .1 .0) ((c .before .before .before .before .before .before .before .before .before .before .before .before .before .before .parent) .given .1)) _ ((c .before .before .before .before .before .before .before .before .before .before .p) .given .0 .1 .0) (sym ((c .before .before .before .before .before .before .before .before .before .before .before .before .word-here) .ensures .is) ∙ ap (word-is s) ((c .before .before .before .before .before .before .before .before .before .before .p) .given .1)) ((c .before .before .before .before .before .before .before .scope-word) .result) ((c .before .before .before .before .before .before .before .scope-word) .ensures) (tail-none s _ _ _ _ (tp .tail) ((c .enum-told3) .given .1)) }
 
--- src/rows.rt:189:20
 cast-scope-fits : tie.Need-cast-scope-fits
 cast-scope-fits c = search needs
 
--- src/rows.rt:189:9
 scope-fits-requires : tie.Need-scope-fits-requires
 scope-fits-requires c κs = search needs
 
--- src/rows.rt:190:9
 same-length-2 : tie.Need-same-length-2
 same-length-2 c = search needs
 
--- src/rows.rt:190:9
 returns-4 : tie.Need-returns-4
 returns-4 c =
     let a = (c .before .before .before .before .before .before .before .before .before .before .before .before .before .before .before .before .before .before .before .before .before .before .args) in
@@ -133,31 +109,24 @@ returns-4 c =
     let tp = tail-put-as {words′ = (c .before .before .before .before .before .before .before .read-tail) .last .1 .1 .1 .0} ((c .before .before .before .before .before .before .before .before .before .bare) .ensures) ((c .before .before .before .before .before .before .before .read-tail) .ensures) in
     record { left = behind-left (a .n) ((c .before .before .before .before .before .before .before .before .before .before .before .before .before .before .before .before .before .before .before .before .before .before .pre) .0) (tp .behind); line = scope-no-fit s _ (parts ((c .before .before .before .before .before .before .before .before .before .before .before .before .before .before .before .before .before .parent) .given .0 .0) .low) ((c .before .before .before .before .before .before .before .before .before .before .before .before .before .before .before .before .before .parent) .given .0 .1 .0) (words-found s _ Kind.MaybeNumber ((c .before .before .before .before .before .before .before .before .before .before .before .before .before .before .before .before .before .before .before .slot-words) .result) ((c .before .before .before .before .before .before .before .before .before .before .before .before .before .before .before .before .before .before .before .slot-words) .ensures) ((c .before .before .before .before .before .before .before .before .before .before .before .before .before .before .before .before .before .parent) .given .0 .0) ((c .before .before .before .before .before .before .before .before .before .before .before .before .before .before .before .before .before .parent) .given .0 .1 .0) ((c .before .before .before .before .before .before .before .before .before .before .before .before .before .before .before .before .before .parent) .given .1)) _ ((c .before .before .before .before .before .before .before .before .before .before .before .before .before .p) .given .0 .1 .0) (sym ((c .before .before .before .before .before .before .before .before .before .before .before .before .before .before .before .word-here) .ensures .is) ∙ ap (word-is s) ((c .before .before .before .before .before .before .before .before .before .before .before .before .before .p) .given .1)) ((c .before .before .before .before .before .before .before .before .before .before .scope-word) .result) ((c .before .before .before .before .before .before .before .before .before .before .scope-word) .ensures) (a .n) ((c .before .before .before .tail) .given .0 .0) (tail-of s _ _ _ (a .n .items) (tp .tail) ((c .before .before .before .tail) .given .0 .0) ((c .before .before .before .tail) .given .1)) (sym ((c .before .scope-fits) .ensures) ∙ not-yes _ ((c .if1) .taken)) }
 
--- src/rows.rt:194:27
 mul-put-two : tie.Need-mul-put-two
 mul-put-two c = omega (arith, (c .before .before .before .before .before .before .before .before .before .before .before .before .before .before .before .before .before .before .before .before .before .before .before .before .pre) .1)
 
--- src/rows.rt:194:9
 add-put-two : tie.Need-add-put-two
 add-put-two c = omega (arith, (c .before .before .before .before .before .before .before .before .before .before .before .before .before .before .before .before .before .before .before .before .before .before .before .before .pre) .1)
 
--- src/rows.rt:195:9
 cast-put-two : tie.Need-cast-put-two
 cast-put-two c = search needs
 
--- src/rows.rt:196:9
 scope-number-requires : tie.Need-scope-number-requires
 scope-number-requires c κs = search needs
 
--- src/rows.rt:192:5
 put-two-requires : tie.Need-put-two-requires
 put-two-requires c κs = omega (arith, (c .before .before .before .before .before .before .before .before .before .before .before .before .before .before .before .before .before .before .before .before .before .before .before .before .before .pre) .0 .room, (c .before .before .before .before .before .before .before .before .before .before .before .before .before .before .before .before .before .before .before .before .before .before .before .before .before .pre) .1, (c .before .before .before .before .before .before .before .before .before .before .read-tail) .ensures .behind .long)
 
--- src/rows.rt:175:1
 same-length-3 : tie.Need-same-length-3
 same-length-3 c = search needs
 
--- src/rows.rt:175:1
 returns-5 : tie.Need-returns-5
 returns-5 c =
     let a = (c .before .before .before .before .before .before .before .before .before .before .before .before .before .before .before .before .before .before .before .before .before .before .before .before .before .before .before .before .args) in

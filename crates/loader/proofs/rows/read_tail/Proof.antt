@@ -1,7 +1,6 @@
 -- `loader::rows::read_tail` meets its contract. Assumes nothing.
-use mathlib.Core.Path.{sym, subst}
+use mathlib.Core.Path.{subst}
 use lib.ListN.{drop}
-use native.Mathlib.Omega.{arith}
 use Rattle.loader.specs.Items.{ItemsAre}
 use Rattle.loader.proofs.Listing.{behind-self}
 use Rattle.loader.proofs.Tailing.{three-found, three-lost, tail-no-three, tail-no-items, tail-held}
@@ -14,19 +13,15 @@ use Rattle.loader.proofs.items.read_items.Reads as read-items-reads
 use Rattle.loader.proofs.rows.list_word.Reads as list-word-reads
 use Rattle.loader.proofs.values.three_words.Reads as three-words-reads
 
--- src/rows.rt:79:39
 three-words-requires : tie.Need-three-words-requires
 three-words-requires c κs = search needs
 
--- src/rows.rt:79:25
 enum-known-a : tie.Need-enum-known-a
 enum-known-a c = search needs
 
--- src/rows.rt:80:9
 enum-told : tie.Need-enum-told
 enum-told c = search needs
 
--- src/rows.rt:80:9
 returns : tie.Need-returns
 returns c =
     let a = (c .before .before .before .before .before .args) in
@@ -34,23 +29,18 @@ returns c =
     let sh = a .shape in
     record { behind = behind-self _ _; tail = tail-no-three sh s _ (three-lost s _ (sh .a) (sh .b) (sh .c) ((c .before .before .three-words) .result) ((c .before .before .three-words) .ensures) ((c .enum-told) .given .1)) }
 
--- src/rows.rt:82:38
 read-items-requires : tie.Need-read-items-requires
 read-items-requires c κs = search needs
 
--- src/rows.rt:82:24
 enum-known-count : tie.Need-enum-known-count
 enum-known-count c = search needs
 
--- src/rows.rt:83:9
 enum-told-2 : tie.Need-enum-told-2
 enum-told-2 c = search needs
 
--- src/rows.rt:83:9
 same-length : tie.Need-same-length
 same-length c = search needs
 
--- src/rows.rt:83:9
 returns-2 : tie.Need-returns-2
 returns-2 c =
     let a = (c .before .before .before .before .before .before .before .before .before .before .before .before .args) in
@@ -58,15 +48,12 @@ returns-2 c =
     let sh = a .shape in
     record { behind = (c .before .before .before .before .read-items) .ensures .behind; tail = tail-no-items sh s _ ((c .before .before .before .before .before .before .before .a) .given .0 .0) ((c .before .before .before .before .before .before .before .a) .given .0 .1 .0) ((c .before .before .before .before .before .before .before .a) .given .0 .1 .1 .0) ((c .before .before .before .before .before .before .before .a) .given .0 .1 .1 .1 .0) (three-found s _ (sh .a) (sh .b) (sh .c) ((c .before .before .before .before .before .before .before .before .before .three-words) .result) ((c .before .before .before .before .before .before .before .before .before .three-words) .ensures) ((c .before .before .before .before .before .before .before .a) .given .0 .0) ((c .before .before .before .before .before .before .before .a) .given .0 .1 .0) ((c .before .before .before .before .before .before .before .a) .given .0 .1 .1 .0) ((c .before .before .before .before .before .before .before .a) .given .0 .1 .1 .1 .0) ((c .before .before .before .before .before .before .before .a) .given .1)) (subst (ItemsAre s _ (sh .list) (drop ((c .before .before .before .before .before .before .before .a) .given .0 .1 .1 .1 .0) s) (a .first)) ((c .enum-told2) .given .1) ((c .before .before .before .before .read-items) .ensures .are)) }
 
--- src/rows.rt:85:40
 list-word-requires : tie.Need-list-word-requires
 list-word-requires c κs = search needs
 
--- src/rows.rt:71:1
 same-length-2 : tie.Need-same-length-2
 same-length-2 c = search needs
 
--- src/rows.rt:71:1
 returns-3 : tie.Need-returns-3
 returns-3 c =
     let a = (c .before .before .before .before .before .before .before .before .before .before .before .before .before .before .args) in

@@ -2,7 +2,7 @@
 use mathlib.Core.Path.{sym, ap, subst, _∙_}
 use Prim.Native.Nat.{_-_}
 use native.Mathlib.Omega.{arith}
-use lib.ListN.{take, drop}
+use lib.ListN.{drop}
 use Rattle.fields.specs.Held.{word-is, Inside}
 use Rattle.format.specs.Shapes.{type-shape}
 use Rattle.loader.specs.Lines.{last-word}
@@ -22,72 +22,57 @@ use Rattle.loader.proofs.shapes.type_number.Reads as type-number-reads
 use Rattle.loader.proofs.shapes.type_shape.Reads as type-shape-reads
 use Rattle.words.proofs.type_word.Reads as type-word-reads
 
--- src/rows.rt:206:26
 word-here-requires : tie.Need-word-here-requires
 word-here-requires c κs = search needs
 
--- src/rows.rt:206:18
 enum-known-p : tie.Need-enum-known-p
 enum-known-p c = search needs
 
--- src/rows.rt:207:9
 enum-told : tie.Need-enum-told
 enum-told c = search needs
 
--- src/rows.rt:207:9
 returns : tie.Need-returns
 returns c =
     let a = (c .before .before .before .before .before .args) in
     let s = a .file .now in
     record { left = left-self (a .n) _; line = type-no-word s _ (sym ((c .before .before .word-here) .ensures .is) ∙ ap (word-is s) ((c .enum-told) .given .1)) }
 
--- src/rows.rt:209:33
 sub-type-word : tie.Need-sub-type-word
 sub-type-word c =
     let in-file = subst (Inside ((c .before .before .before .before .before .before .args) .file .now)) ((c .before .p) .given .1) ((c .before .before .before .word-here) .ensures .inside) in
     in-file .0
 
--- src/rows.rt:209:33
 part-type-word-start : tie.Need-part-type-word-start
 part-type-word-start c =
     let in-file = subst (Inside ((c .before .before .before .before .before .before .args) .file .now)) ((c .before .p) .given .1) ((c .before .before .before .word-here) .ensures .inside) in
     omega (arith, in-file)
 
--- src/rows.rt:209:33
 part-type-word-end : tie.Need-part-type-word-end
 part-type-word-end c =
     let in-file = subst (Inside ((c .before .before .before .before .before .before .args) .file .now)) ((c .before .p) .given .1) ((c .before .before .before .word-here) .ensures .inside) in
     omega (arith, in-file)
 
--- src/rows.rt:209:9
 type-word-requires : tie.Need-type-word-requires
 type-word-requires c κs = search needs
 
--- src/rows.rt:210:9
 type-number-requires : tie.Need-type-number-requires
 type-number-requires c κs = search needs
 
--- src/rows.rt:211:9
 type-shape-requires : tie.Need-type-shape-requires
 type-shape-requires c κs = search needs
 
--- src/rows.rt:212:30
 read-tail-requires : tie.Need-read-tail-requires
 read-tail-requires c κs = search needs
 
--- src/rows.rt:212:22
 enum-known-tail : tie.Need-enum-known-tail
 enum-known-tail c = search needs
 
--- src/rows.rt:213:9
 enum-told-2 : tie.Need-enum-told-2
 enum-told-2 c = search needs
 
--- src/rows.rt:213:9
 same-length : tie.Need-same-length
 same-length c = search needs
 
--- src/rows.rt:213:9
 returns-2 : tie.Need-returns-2
 returns-2 c =
     let a = (c .before .before .before .before .before .before .before .before .before .before .before .before .before .before .before .before .args) in
@@ -95,11 +80,9 @@ returns-2 c =
     let tp = tail-put-as {words′ = (c .before .before .before .before .read-tail) .last .1 .1 .1 .0} ((c .before .before .before .before .before .before .type-shape) .ensures) ((c .before .before .before .before .read-tail) .ensures) in
     record { left = behind-left (a .n) ((c .before .before .before .before .before .before .before .before .before .before .before .before .before .before .before .before .pre) .0) (tp .behind); line = type-no-tail s _ _ ((c .before .before .before .before .before .before .before .before .before .before .before .p) .given .0 .1 .0) (sym ((c .before .before .before .before .before .before .before .before .before .before .before .before .before .word-here) .ensures .is) ∙ ap (word-is s) ((c .before .before .before .before .before .before .before .before .before .before .before .p) .given .1)) ((c .before .before .before .before .before .before .before .before .type-word) .result) ((c .before .before .before .before .before .before .before .before .type-word) .ensures) (tail-none s _ _ _ _ (tp .tail) ((c .enum-told2) .given .1)) }
 
--- src/rows.rt:216:9
 same-length-2 : tie.Need-same-length-2
 same-length-2 c = search needs
 
--- src/rows.rt:216:9
 returns-3 : tie.Need-returns-3
 returns-3 c =
     let a = (c .before .before .before .before .before .before .before .before .before .before .before .before .before .before .before .before .before .before .args) in
@@ -107,35 +90,27 @@ returns-3 c =
     let tp = tail-put-as {words′ = (c .before .before .before .before .before .before .read-tail) .last .1 .1 .1 .0} ((c .before .before .before .before .before .before .before .before .type-shape) .ensures) ((c .before .before .before .before .before .before .read-tail) .ensures) in
     record { left = behind-left (a .n) ((c .before .before .before .before .before .before .before .before .before .before .before .before .before .before .before .before .before .before .pre) .0) (tp .behind); line = type-no-kind s _ _ ((c .before .before .before .before .before .before .before .before .before .before .before .before .before .p) .given .0 .1 .0) (sym ((c .before .before .before .before .before .before .before .before .before .before .before .before .before .before .before .word-here) .ensures .is) ∙ ap (word-is s) ((c .before .before .before .before .before .before .before .before .before .before .before .before .before .p) .given .1)) ((c .before .before .before .before .before .before .before .before .before .before .type-word) .result) ((c .before .before .before .before .before .before .before .before .before .before .type-word) .ensures) (a .n) ((c .before .before .tail) .given .0 .0) (tail-of s _ (type-shape ((c .before .before .before .before .before .before .before .before .before .before .type-word) .result)) (drop ((c .before .before .before .before .before .before .before .before .before .before .before .before .before .p) .given .0 .1 .0) s) (a .n .items) (tp .tail) ((c .before .before .tail) .given .0 .0) ((c .before .before .tail) .given .1)) (sym ((c .before .before .before .before .before .before .before .before .before .type-number) .ensures) ∙ (c .if1) .taken) }
 
--- src/rows.rt:220:31
 mul-put-four : tie.Need-mul-put-four
 mul-put-four c = omega (arith, (c .before .before .before .before .before .before .before .before .before .before .before .before .before .before .before .before .before .before .before .before .pre) .1)
 
--- src/rows.rt:220:9
 add-put-four : tie.Need-add-put-four
 add-put-four c = omega (arith, (c .before .before .before .before .before .before .before .before .before .before .before .before .before .before .before .before .before .before .before .before .pre) .1)
 
--- src/rows.rt:222:9
 cast-put-four : tie.Need-cast-put-four
 cast-put-four c = search needs
 
--- src/rows.rt:223:9
 cast-put-four-2 : tie.Need-cast-put-four-2
 cast-put-four-2 c = search needs
 
--- src/rows.rt:224:9
 last-word-requires : tie.Need-last-word-requires
 last-word-requires c κs = search needs
 
--- src/rows.rt:218:5
 put-four-requires : tie.Need-put-four-requires
 put-four-requires c κs = omega (arith, (c .before .before .before .before .before .before .before .before .before .before .before .before .before .before .before .before .before .before .before .before .before .before .before .pre) .0 .room, (c .before .before .before .before .before .before .before .before .before .before .before .before .before .before .before .before .before .before .before .before .before .before .before .pre) .1, (c .before .before .before .before .before .before .before .before .before .before .before .read-tail) .ensures .behind .long)
 
--- src/rows.rt:202:1
 same-length-3 : tie.Need-same-length-3
 same-length-3 c = search needs
 
--- src/rows.rt:202:1
 returns-4 : tie.Need-returns-4
 returns-4 c =
     let a = (c .before .before .before .before .before .before .before .before .before .before .before .before .before .before .before .before .before .before .before .before .before .before .before .before .before .before .args) in

@@ -7,43 +7,33 @@ use Rattle.loader.proofs.rows.scope_fits.Tie as tie
 use Rattle.loader.proofs.rows.scope_fits.Reads as reads
 use Rattle.loader.proofs.rows.scope_fits.Lts as lts
 
--- src/rows.rt:153:30
 enum-told : tie.Need-enum-told
 enum-told c = search needs
 
--- src/rows.rt:154:32
 enum-told-2 : tie.Need-enum-told-2
 enum-told-2 c = search needs
 
--- src/rows.rt:155:29
 enum-told-3 : tie.Need-enum-told-3
 enum-told-3 c = search needs
 
--- src/rows.rt:156:28
 enum-told-4 : tie.Need-enum-told-4
 enum-told-4 c = search needs
 
--- src/rows.rt:157:29
 enum-told-5 : tie.Need-enum-told-5
 enum-told-5 c = search needs
 
--- src/rows.rt:149:1
 returns : tie.Need-returns
 returns c = ap (scope-fits ((c .before .before .args) .parent)) (sym ((c .enum-told) .given .1))
 
--- src/rows.rt:149:1
 returns-2 : tie.Need-returns-2
 returns-2 c = ap (scope-fits ((c .before .before .args) .parent)) (sym ((c .enum-told2) .given .1))
 
--- src/rows.rt:149:1
 returns-3 : tie.Need-returns-3
 returns-3 c = ap (scope-fits ((c .before .before .args) .parent)) (sym ((c .enum-told3) .given .1))
 
--- src/rows.rt:149:1
 returns-4 : tie.Need-returns-4
 returns-4 c = ap (scope-fits ((c .before .before .args) .parent)) (sym ((c .enum-told4) .given .1))
 
--- src/rows.rt:149:1
 returns-5 : tie.Need-returns-5
 returns-5 c = search needs
 

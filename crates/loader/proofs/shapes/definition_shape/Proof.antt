@@ -7,67 +7,51 @@ use Rattle.loader.proofs.shapes.definition_shape.Tie as tie
 use Rattle.loader.proofs.shapes.definition_shape.Reads as reads
 use Rattle.loader.proofs.shapes.definition_shape.Lts as lts
 
--- src/shapes.rt:61:42
 enum-told : tie.Need-enum-told
 enum-told c = search needs
 
--- src/shapes.rt:62:46
 enum-told-2 : tie.Need-enum-told-2
 enum-told-2 c = search needs
 
--- src/shapes.rt:63:45
 enum-told-3 : tie.Need-enum-told-3
 enum-told-3 c = search needs
 
--- src/shapes.rt:64:43
 enum-told-4 : tie.Need-enum-told-4
 enum-told-4 c = search needs
 
--- src/shapes.rt:65:45
 enum-told-5 : tie.Need-enum-told-5
 enum-told-5 c = search needs
 
--- src/shapes.rt:66:43
 enum-told-6 : tie.Need-enum-told-6
 enum-told-6 c = search needs
 
--- src/shapes.rt:67:44
 enum-told-7 : tie.Need-enum-told-7
 enum-told-7 c = search needs
 
--- src/shapes.rt:68:45
 enum-told-8 : tie.Need-enum-told-8
 enum-told-8 c = search needs
 
--- src/shapes.rt:57:1
 returns : tie.Need-returns
 returns c = ap definition-shape (sym (c .enum-told .given .1))
 
--- src/shapes.rt:57:1
 returns-2 : tie.Need-returns-2
 returns-2 c = ap definition-shape (sym (c .enum-told2 .given .1))
 
--- src/shapes.rt:57:1
 returns-3 : tie.Need-returns-3
 returns-3 c = ap definition-shape (sym (c .enum-told3 .given .1))
 
--- src/shapes.rt:57:1
 returns-4 : tie.Need-returns-4
 returns-4 c = ap definition-shape (sym (c .enum-told4 .given .1))
 
--- src/shapes.rt:57:1
 returns-5 : tie.Need-returns-5
 returns-5 c = ap definition-shape (sym (c .enum-told5 .given .1))
 
--- src/shapes.rt:57:1
 returns-6 : tie.Need-returns-6
 returns-6 c = ap definition-shape (sym (c .enum-told6 .given .1))
 
--- src/shapes.rt:57:1
 returns-7 : tie.Need-returns-7
 returns-7 c = ap definition-shape (sym (c .enum-told7 .given .1))
 
--- src/shapes.rt:57:1
 returns-8 : tie.Need-returns-8
 returns-8 c = ap definition-shape (sym (c .enum-told8 .given .1))
 

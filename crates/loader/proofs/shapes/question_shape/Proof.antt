@@ -7,35 +7,27 @@ use Rattle.loader.proofs.shapes.question_shape.Tie as tie
 use Rattle.loader.proofs.shapes.question_shape.Reads as reads
 use Rattle.loader.proofs.shapes.question_shape.Lts as lts
 
--- src/shapes.rt:167:42
 enum-told : tie.Need-enum-told
 enum-told c = search needs
 
--- src/shapes.rt:168:41
 enum-told-2 : tie.Need-enum-told-2
 enum-told-2 c = search needs
 
--- src/shapes.rt:169:44
 enum-told-3 : tie.Need-enum-told-3
 enum-told-3 c = search needs
 
--- src/shapes.rt:170:43
 enum-told-4 : tie.Need-enum-told-4
 enum-told-4 c = search needs
 
--- src/shapes.rt:163:1
 returns : tie.Need-returns
 returns c = ap question-shape (sym (c .enum-told .given .1))
 
--- src/shapes.rt:163:1
 returns-2 : tie.Need-returns-2
 returns-2 c = ap question-shape (sym (c .enum-told2 .given .1))
 
--- src/shapes.rt:163:1
 returns-3 : tie.Need-returns-3
 returns-3 c = ap question-shape (sym (c .enum-told3 .given .1))
 
--- src/shapes.rt:163:1
 returns-4 : tie.Need-returns-4
 returns-4 c = ap question-shape (sym (c .enum-told4 .given .1))
 

@@ -1,9 +1,8 @@
 -- `loader::values::slot_words` meets its contract. Assumes nothing.
-use Prim.Native.Nat.{_≤_, _<_}
-use mathlib.Core.Path.{sym, ap, subst, _∙_}
+use mathlib.Core.Path.{sym, _∙_}
 use native.Mathlib.Omega.{arith}
 use Rattle.fields.proofs.Slots.{slot-lost}
-use Rattle.loader.proofs.Holding.{absent-held, link-bound, link-held, number-held, Named, text-named, text-held, held-fits, words-held}
+use Rattle.loader.proofs.Holding.{absent-held, link-bound, link-held, number-held, text-named, text-held, held-fits, words-held}
 use borrow.Author.Needs.{needs}
 use Rattle.loader.proofs.values.slot_words.Statement.{statement}
 use Rattle.loader.proofs.values.slot_words.Tie as tie
@@ -13,38 +12,30 @@ use Rattle.fields.proofs.read_slot.Reads as read-slot-reads
 use Rattle.loader.proofs.values.is_link.Reads as is-link-reads
 use Rattle.loader.proofs.values.name_words.Reads as name-words-reads
 
--- src/values.rt:56:26
 read-slot-requires : tie.Need-read-slot-requires
 read-slot-requires c κs = search needs
 
--- src/values.rt:56:18
 enum-known-v : tie.Need-enum-known-v
 enum-known-v c = search needs
 
--- src/values.rt:57:9
 enum-told : tie.Need-enum-told
 enum-told c = search needs
 
--- src/values.rt:57:9
 returns : tie.Need-returns
 returns c =
     let a = (c .before .before .before .before .args) in
     let s = a .file .now in
     sym (slot-lost s _ (a .kind) ((c .before .before .read-slot) .result) ((c .before .before .read-slot) .ensures) ((c .enum-told) .given .1))
 
--- src/values.rt:60:26
 enum-told-2 : tie.Need-enum-told-2
 enum-told-2 c = search needs
 
--- src/values.rt:61:23
 enum-known-v-2 : tie.Need-enum-known-v-2
 enum-known-v-2 c = search needs
 
--- src/values.rt:62:16
 is-link-requires : tie.Need-is-link-requires
 is-link-requires c κs = search needs
 
--- src/values.rt:63:39
 add-t12 : tie.Need-add-t12
 add-t12 c =
     let a = (c .before .before .before .before .before .before .before .before .before .before .args) in
@@ -52,7 +43,6 @@ add-t12 c =
     let low = link-bound (a .kind) _ (sym ((c .before .is-link) .ensures) ∙ (c .if1) .taken) (held-fits s _ (a .kind) ((c .before .before .before .before .before .before .before .before .read-slot) .result) ((c .before .before .before .before .before .before .before .before .read-slot) .ensures) ((c .before .before .before .before .before .before .v) .given .0 .0) ((c .before .before .before .before .before .before .v) .given .0 .1 .0) ((c .before .before .before .before .before .before .v) .given .1) ((c .before .before .before .v2) .given .1)) in
     omega (arith, low)
 
--- src/values.rt:63:17
 returns-2 : tie.Need-returns-2
 returns-2 c =
     let a = (c .before .before .before .before .before .before .before .before .before .before .args) in
@@ -60,11 +50,9 @@ returns-2 c =
     let low = link-bound (a .kind) _ (sym ((c .before .is-link) .ensures) ∙ (c .if1) .taken) (held-fits s _ (a .kind) ((c .before .before .before .before .before .before .before .before .read-slot) .result) ((c .before .before .before .before .before .before .before .before .read-slot) .ensures) ((c .before .before .before .before .before .before .v) .given .0 .0) ((c .before .before .before .before .before .before .v) .given .0 .1 .0) ((c .before .before .before .before .before .before .v) .given .1) ((c .before .before .before .v2) .given .1)) in
     words-held s _ (a .kind) ((c .before .before .before .before .before .before .before .before .read-slot) .result) ((c .before .before .before .before .before .before .before .before .read-slot) .ensures) ((c .before .before .before .before .before .before .v) .given .0 .0) ((c .before .before .before .before .before .before .v) .given .0 .1 .0) ((c .before .before .before .before .before .before .v) .given .1) _ ((c .before .before .before .v2) .given .1) (link-held (a .kind) s _ (sym ((c .before .is-link) .ensures) ∙ (c .if1) .taken) low)
 
--- src/values.rt:67:21
 enum-known-v-3 : tie.Need-enum-known-v-3
 enum-known-v-3 c = search needs
 
--- src/values.rt:67:45
 name-words-requires : tie.Need-name-words-requires
 name-words-requires c κs =
     let a = (c .before .before .before .before .before .before .before .before .args) in
@@ -73,21 +61,18 @@ name-words-requires c κs =
     let short = (c .before .before .before .before .before .before .before .before .pre) in
     (omega (arith, n .inside, short), omega (arith, n .most))
 
--- src/values.rt:52:1
 returns-3 : tie.Need-returns-3
 returns-3 c =
     let a = (c .before .before .before .before .before .before .before .args) in
     let s = a .file .now in
     words-held s _ (a .kind) ((c .before .before .before .before .before .read-slot) .result) ((c .before .before .before .before .before .read-slot) .ensures) ((c .before .before .before .v) .given .0 .0) ((c .before .before .before .v) .given .0 .1 .0) ((c .before .before .before .v) .given .1) 0 ((c .enum-told2) .given .1) (absent-held (a .kind) s (held-fits s _ (a .kind) ((c .before .before .before .before .before .read-slot) .result) ((c .before .before .before .before .before .read-slot) .ensures) ((c .before .before .before .v) .given .0 .0) ((c .before .before .before .v) .given .0 .1 .0) ((c .before .before .before .v) .given .1) ((c .enum-told2) .given .1)))
 
--- src/values.rt:52:1
 returns-4 : tie.Need-returns-4
 returns-4 c =
     let a = (c .before .before .before .before .before .before .before .before .before .before .args) in
     let s = a .file .now in
     words-held s _ (a .kind) ((c .before .before .before .before .before .before .before .before .read-slot) .result) ((c .before .before .before .before .before .before .before .before .read-slot) .ensures) ((c .before .before .before .before .before .before .v) .given .0 .0) ((c .before .before .before .before .before .before .v) .given .0 .1 .0) ((c .before .before .before .before .before .before .v) .given .1) _ ((c .before .before .before .v2) .given .1) (number-held s _ (a .kind) (sym ((c .before .is-link) .ensures) ∙ (c .if1) .left) (held-fits s _ (a .kind) ((c .before .before .before .before .before .before .before .before .read-slot) .result) ((c .before .before .before .before .before .before .before .before .read-slot) .ensures) ((c .before .before .before .before .before .before .v) .given .0 .0) ((c .before .before .before .before .before .before .v) .given .0 .1 .0) ((c .before .before .before .before .before .before .v) .given .1) ((c .before .before .before .v2) .given .1)))
 
--- src/values.rt:52:1
 returns-5 : tie.Need-returns-5
 returns-5 c =
     let a = (c .before .before .before .before .before .before .before .before .before .args) in

@@ -8,19 +8,15 @@ use Rattle.loader.proofs.values.three_words.Reads as reads
 use Rattle.loader.proofs.values.three_words.Lts as lts
 use Rattle.loader.proofs.values.slot_words.Reads as slot-words-reads
 
--- src/values.rt:75:33
 slot-words-requires : tie.Need-slot-words-requires
 slot-words-requires c κs = search needs
 
--- src/values.rt:75:24
 enum-known-a : tie.Need-enum-known-a
 enum-known-a c = search needs
 
--- src/values.rt:76:9
 enum-told : tie.Need-enum-told
 enum-told c = search needs
 
--- src/values.rt:76:9
 returns : tie.Need-returns
 unfolding three
 returns c =
@@ -28,19 +24,15 @@ returns c =
     let s = a .file .now in
     rw (words-lost s _ (a .ka) ((c .before .before .slot-words) .result) ((c .before .before .slot-words) .ensures) ((c .enum-told) .given .1))
 
--- src/values.rt:78:33
 slot-words-requires-2 : tie.Need-slot-words-requires-2
 slot-words-requires-2 c κs = search needs
 
--- src/values.rt:78:24
 enum-known-b : tie.Need-enum-known-b
 enum-known-b c = search needs
 
--- src/values.rt:79:9
 enum-told-2 : tie.Need-enum-told-2
 enum-told-2 c = search needs
 
--- src/values.rt:79:9
 returns-2 : tie.Need-returns-2
 unfolding three
 returns-2 c =
@@ -48,19 +40,15 @@ returns-2 c =
     let s = a .file .now in
     rw ((words-found s _ (a .ka) ((c .before .before .before .before .before .before .slot-words) .result) ((c .before .before .before .before .before .before .slot-words) .ensures) ((c .before .before .before .before .a) .given .0 .0) ((c .before .before .before .before .a) .given .0 .1 .0) ((c .before .before .before .before .a) .given .1)), words-lost s _ (a .kb) ((c .before .before .slot-words2) .result) ((c .before .before .slot-words2) .ensures) ((c .enum-told2) .given .1))
 
--- src/values.rt:81:33
 slot-words-requires-3 : tie.Need-slot-words-requires-3
 slot-words-requires-3 c κs = search needs
 
--- src/values.rt:81:24
 enum-known-c : tie.Need-enum-known-c
 enum-known-c c = search needs
 
--- src/values.rt:82:9
 enum-told-3 : tie.Need-enum-told-3
 enum-told-3 c = search needs
 
--- src/values.rt:82:9
 returns-3 : tie.Need-returns-3
 unfolding three
 returns-3 c =
@@ -68,7 +56,6 @@ returns-3 c =
     let s = a .file .now in
     rw ((words-found s _ (a .ka) ((c .before .before .before .before .before .before .before .before .before .before .slot-words) .result) ((c .before .before .before .before .before .before .before .before .before .before .slot-words) .ensures) ((c .before .before .before .before .before .before .before .before .a) .given .0 .0) ((c .before .before .before .before .before .before .before .before .a) .given .0 .1 .0) ((c .before .before .before .before .before .before .before .before .a) .given .1)), (words-found s _ (a .kb) ((c .before .before .before .before .before .before .slot-words2) .result) ((c .before .before .before .before .before .before .slot-words2) .ensures) ((c .before .before .before .before .b) .given .0 .0) ((c .before .before .before .before .b) .given .0 .1 .0) ((c .before .before .before .before .b) .given .1)), words-lost s _ (a .kc) ((c .before .before .slot-words3) .result) ((c .before .before .slot-words3) .ensures) ((c .enum-told3) .given .1))
 
--- src/values.rt:71:1
 returns-4 : tie.Need-returns-4
 unfolding three
 returns-4 c =
