@@ -71,7 +71,7 @@ use Rattle.resolution.proofs.SafeReads.{AllBelow, all-nil, all-cons, al
 
 -- ------------------------------------------------------------------ lists of demands
 
-resolve-all-safe : {table : Table} → TableOk table → (m s : ℕ) (ts : List ℕ) → Safe AllBelow table (resolve-all m s ts)
+pub resolve-all-safe : {table : Table} → TableOk table → (m s : ℕ) (ts : List ℕ) → Safe AllBelow table (resolve-all m s ts)
 unfolding resolve-all
 resolve-all-safe {table} ok m s [] = safe-done (all-nil table)
 resolve-all-safe ok m s (t ∷ ts) =
@@ -91,7 +91,7 @@ infer-arguments-safe {table} ok m params h index (arg ∷ args) =
     safe-bind ok (infer-only-safe ok m arg (getElem? params index) (at-below table params index h)) λ after ok₁ x u good.
     infer-arguments-safe ok₁ m params (all-later params x h) (suc index) args
 
-infer-elements-safe : {table : Table} → TableOk table → (m : ℕ) (contexts : List ℕ) → AllBelow table contexts → (index : ℕ) (elements : List (Option ℕ))
+pub infer-elements-safe : {table : Table} → TableOk table → (m : ℕ) (contexts : List ℕ) → AllBelow table contexts → (index : ℕ) (elements : List (Option ℕ))
     → Safe AllBelow table (infer-elements m contexts index elements)
 unfolding infer-elements
 infer-elements-safe {table} ok m contexts h index [] = safe-done (all-nil table)

@@ -1,0 +1,45 @@
+-- `type_table::intern_pointer` meets its contract. Assumes nothing.
+use mathlib.Core.List.{[]}
+use borrow.Author.Needs.{needs}
+use Rattle.resolution.specs.TableOk.{row-types}
+use Rattle.type_table.specs.Layout.{data-from, data-by}
+use Rattle.type_table.proofs.Canonicals.{pointer-canonical, below-cons, below-none}
+use Rattle.type_table.proofs.intern_pointer.Statement.{statement}
+use Rattle.type_table.proofs.intern_pointer.Tie as tie
+
+array-share-prefix-names : tie.Need-array-share-prefix-names
+array-share-prefix-names c = search needs
+
+slice-aggregate-intern : tie.Need-slice-aggregate-intern
+slice-aggregate-intern c = search needs
+
+array-share-prefix-items : tie.Need-array-share-prefix-items
+array-share-prefix-items c = search needs
+
+slice-aggregate-intern-2 : tie.Need-slice-aggregate-intern-2
+slice-aggregate-intern-2 c = search needs
+
+intern-requires : tie.Need-intern-requires
+unfolding data-from data-by row-types
+intern-requires c κs =
+    let start = c .before .before .before .before .before in
+    (start .pre .0, (pointer-canonical (start .args .file .now) (start .args .element), below-cons _ _ [] (start .pre .1) (below-none _)))
+
+same-length : tie.Need-same-length
+same-length c = search needs
+
+returns : tie.Need-returns
+unfolding data-from data-by
+returns c = c .before .before .intern .ensures
+
+pub intern-pointer-spec : {M : Type 1} → statement M
+intern-pointer-spec =
+    tie.close
+    (tie.spec
+    array-share-prefix-names
+    slice-aggregate-intern
+    array-share-prefix-items
+    slice-aggregate-intern-2
+    intern-requires
+    same-length
+    returns)

@@ -1,0 +1,4 @@
+-- What the proofs of several functions use. Assumes nothing.
+pub mod Nodes
+pub mod Chains
+pub mod Fields
