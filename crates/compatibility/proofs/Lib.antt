@@ -1,0 +1,6 @@
+-- Laws of two types compared, of the store of pairs, and of the scan of the operator rows; and what callers may cite. Assumes nothing.
+mod ByKind
+mod Compared
+mod Store
+mod Scan
+pub mod Laws

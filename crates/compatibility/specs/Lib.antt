@@ -1,0 +1,3 @@
+-- The store of pairs, and the rows of the operators. Definitions only.
+pub mod Pairs
+pub mod Operators
