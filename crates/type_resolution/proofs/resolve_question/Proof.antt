@@ -1,0 +1,99 @@
+-- `type_resolution::resolve_question` meets its contract. Assumes nothing.
+use Rattle.type_resolution.proofs.Arms.{by-question, by-context}
+use Rattle.resolution.specs.TypeResolution.{question-program}
+use borrow.Author.Needs.{needs}
+use Rattle.type_resolution.proofs.resolve_question.Statement.{statement}
+use Rattle.type_resolution.proofs.resolve_question.Tie as tie
+
+enum-known-question : tie.Need-enum-known-question
+enum-known-question c = search needs
+
+enum-told : tie.Need-enum-told
+enum-told c = search needs
+
+expression-semantic-type-requires : tie.Need-expression-semantic-type-requires
+expression-semantic-type-requires c κs = search needs
+
+enum-known-context : tie.Need-enum-known-context
+enum-known-context c = search needs
+
+asked-in-requires : tie.Need-asked-in-requires
+asked-in-requires c κs = search needs
+
+enum-known-question-2 : tie.Need-enum-known-question-2
+enum-known-question-2 c = search needs
+
+definition-semantic-type-requires : tie.Need-definition-semantic-type-requires
+definition-semantic-type-requires c κs = search needs
+
+enum-known-question-3 : tie.Need-enum-known-question-3
+enum-known-question-3 c = search needs
+
+resolve-ast-type-requires : tie.Need-resolve-ast-type-requires
+resolve-ast-type-requires c κs = search needs
+
+same-length : tie.Need-same-length
+same-length c = search needs
+
+same-length-2 : tie.Need-same-length-2
+same-length-2 c = search needs
+
+returns : tie.Need-returns
+unfolding question-program
+returns c = by-question _ ((c .before .before .before .before .before .before .before .before .before .question) .given .1) (by-context _ _ _ _ _ ((c .before .before .before .before .before .before .enum-told) .given .1) ((c .before .before .before .expression-semantic-type) .ensures))
+
+same-length-3 : tie.Need-same-length-3
+same-length-3 c = search needs
+
+same-length-4 : tie.Need-same-length-4
+same-length-4 c = search needs
+
+returns-2 : tie.Need-returns-2
+unfolding question-program
+returns-2 c = by-question _ ((c .before .before .before .before .before .before .before .before .before .before .question) .given .1) (by-context _ _ _ _ _ ((c .before .before .before .before .before .before .before .context) .given .1) ((c .before .before .before .asked-in) .ensures))
+
+same-length-5 : tie.Need-same-length-5
+same-length-5 c = search needs
+
+same-length-6 : tie.Need-same-length-6
+same-length-6 c = search needs
+
+returns-3 : tie.Need-returns-3
+unfolding question-program
+returns-3 c = by-question _ ((c .before .before .before .before .before .before .before .question2) .given .1) ((c .before .before .before .definition-semantic-type) .ensures)
+
+same-length-7 : tie.Need-same-length-7
+same-length-7 c = search needs
+
+same-length-8 : tie.Need-same-length-8
+same-length-8 c = search needs
+
+returns-4 : tie.Need-returns-4
+unfolding question-program
+returns-4 c = by-question _ ((c .before .before .before .before .before .before .before .question3) .given .1) ((c .before .before .before .resolve-ast-type) .ensures)
+
+pub resolve-question-spec : {M : Type 1} → statement M
+resolve-question-spec =
+    tie.close
+    (tie.spec
+    enum-known-question
+    enum-told
+    expression-semantic-type-requires
+    enum-known-context
+    asked-in-requires
+    enum-known-question-2
+    definition-semantic-type-requires
+    enum-known-question-3
+    resolve-ast-type-requires
+    same-length
+    same-length-2
+    returns
+    same-length-3
+    same-length-4
+    returns-2
+    same-length-5
+    same-length-6
+    returns-3
+    same-length-7
+    same-length-8
+    returns-4)
