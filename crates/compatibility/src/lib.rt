@@ -6,15 +6,16 @@ use type_table::ERROR;
 use type_table::FELT;
 use type_table::U32;
 ghost use mathlib.Core.Path.{_≡_};
-ghost use Prim.Native.Nat.{ℕ, _<_};
+ghost use Prim.Native.Nat.{ℕ, _*_, _<_};
 ghost use mathlib.Core.Bool.{_&&_, _||_};
 ghost use lib.Dec.{eqb};
+ghost use lib.ListN.{length};
 ghost use Rattle.records.specs.Meaning.{unary-op-of, binary-op-of};
 ghost use Rattle.resolution.specs.TableOk.{TableOk};
 ghost use Rattle.resolution.specs.Compatible.{are-types-compatible, unary-number, binary-number, unary-result};
 ghost use Rattle.resolution.specs.Compatible.{binary-result, unary-op-signatures, binary-op-signatures};
 ghost use Rattle.type_table.specs.Layout.{type-count, table-of, AllBelow, Sound};
-ghost use Rattle.compatibility.specs.Pairs.{Remembers, rows-compatible, lists-compatible};
+ghost use Rattle.compatibility.specs.Pairs.{mark-at, Marks, Remembers, rows-compatible, lists-compatible};
 ghost use Rattle.compatibility.specs.Operators.{unary-row-at, binary-row-at};
 
 // ------------------------------------------------------------------ compatibility
@@ -28,8 +29,26 @@ fn is_error_or_unknown(kind: u32) -> bool
     kind == 3
 }
 
+// Whether a place of the store is marked. A word holds the marks of 32 places, a bit for each.
+fn is_marked(seen: &[u32], at: usize) -> bool
+    requires { ⌜ at < 32 * length (now seen) ⌝ }
+    ensures { λ r. ⌜ r ≡ eqb (mark-at (now (seen .entry)) at) 1 ⌝ }
+{
+    let marks = seen[at / 32];
+    (marks >> (at % 32)) % 2 == 1
+}
+
+// Marks a place of the store.
+fn mark(seen: &mut [u32], at: usize)
+    requires { ⌜ at < 32 * length (now seen) ⌝ }
+    ensures { λ _. ⌜ Marks (now (seen .entry)) at (now (seen .exit)) ⌝ }
+{
+    let marks = seen[at / 32];
+    seen[at / 32] = marks | (1 << (at % 32));
+}
+
 // Whether two types are compatible. seen marks pairs that are known to be.
-fn compatible(file: &[u8], types: &[u32], seen: &mut [u8], actual: u32, expected: u32) -> bool
+fn compatible(file: &[u8], types: &[u32], seen: &mut [u32], actual: u32, expected: u32) -> bool
     requires { ⌜ Sound (now file) (now types) ⌝ }
     requires { ⌜ TableOk (table-of (now file) (now types)) ⌝ }
     requires { ⌜ (actual < type-count (now types)) × (expected < type-count (now types)) ⌝ }
@@ -41,18 +60,18 @@ fn compatible(file: &[u8], types: &[u32], seen: &mut [u8], actual: u32, expected
         return true;
     }
     let at = 256 * (actual as usize) + (expected as usize);
-    if seen[at] == 1 {
+    if is_marked(seen, at) {
         return true;
     }
     if compatible_rows(file, types, seen, actual, expected) {
-        seen[at] = 1;
+        mark(seen, at);
         return true;
     }
     false
 }
 
 // Whether the rows of two types are compatible.
-fn compatible_rows(file: &[u8], types: &[u32], seen: &mut [u8], actual: u32, expected: u32) -> bool
+fn compatible_rows(file: &[u8], types: &[u32], seen: &mut [u32], actual: u32, expected: u32) -> bool
     requires { ⌜ Sound (now file) (now types) ⌝ }
     requires { ⌜ TableOk (table-of (now file) (now types)) ⌝ }
     requires { ⌜ (actual < type-count (now types)) × (expected < type-count (now types)) ⌝ }
@@ -93,7 +112,7 @@ fn compatible_rows(file: &[u8], types: &[u32], seen: &mut [u8], actual: u32, exp
 fn compatible_lists(
     file: &[u8],
     types: &[u32],
-    seen: &mut [u8],
+    seen: &mut [u32],
     actual: u32,
     left: &[u32],
     right: &[u32],
@@ -121,13 +140,14 @@ fn compatible_lists(
 }
 
 // Whether two types are compatible, with a store of its own for the pairs that are known to be.
+// A bit for each pair, 8 KB: the compiler may put the store into the frame of each resolution function that compares types.
 fn compare_with_store(file: &[u8], types: &[u32], actual: u32, expected: u32) -> bool
     requires { ⌜ Sound (now file) (now types) ⌝ }
     requires { ⌜ TableOk (table-of (now file) (now types)) ⌝ }
     requires { ⌜ (actual < type-count (now types)) × (expected < type-count (now types)) ⌝ }
     ensures { λ r. ⌜ r ≡ are-types-compatible (table-of (now (file .entry)) (now (types .entry))) actual expected ⌝ }
 {
-    let mut seen = [0u8; 65536];
+    let mut seen = [0u32; 2048];
     compatible(file, types, &mut seen, actual, expected)
 }
 

@@ -4,9 +4,10 @@ use mathlib.Core.Path.{_≡_, refl, sym, _∙_}
 use mathlib.Core.Bool.{true, false}
 use native.Mathlib.Omega.{arith}
 use borrow.Author.Needs.{needs}
+use borrow.Author.Tests.{eqb-true}
 use borrow.Fn.Kinds.{In}
 use borrow.Fn.PlainCycle.{Measures, is, falls, and}
-use lib.ListN.{length, getD, drop, length-set}
+use lib.ListN.{length, getD, drop}
 use Rattle.resolution.specs.Compatible.{are-types-compatible}
 use Rattle.type_table.specs.Layout.{table-of, AllBelow}
 use Rattle.compatibility.specs.Pairs.{Remembers, lists-compatible}
@@ -40,6 +41,8 @@ use Rattle.compatibility.proofs.compatible_rows.Reads as compatible-row
 use Rattle.compatibility.proofs.compatible_rows.Kinds as compatible-rows-kinds
 use Rattle.compatibility.proofs.+compatible+compatible_lists+compatible_rows.Lts-compatible_rows as compatible-rows-lts
 use Rattle.compatibility.proofs.is_error_or_unknown.Reads as is-error-or-unknown-reads
+use Rattle.compatibility.proofs.is_marked.Reads as is-marked-reads
+use Rattle.compatibility.proofs.mark.Reads as mark-reads
 use Rattle.type_table.proofs.head_of.Reads as head-of-reads
 use Rattle.type_table.proofs.items_of.Reads as items-of-reads
 use Rattle.compatibility.proofs.+compatible+compatible_lists+compatible_rows.{statement}
@@ -72,41 +75,41 @@ compatible-rows-at t = and 3 compatible-rows-kinds.ps (is 3 compatible-rows-kind
 abbrev compatible-rows-below : ℕ → In 3 compatible-rows-kinds.ps
 compatible-rows-below t = and 3 compatible-rows-kinds.ps (falls 3 compatible-rows-kinds.ps _<_ μ-compatible-rows t) compatible-rows.Pre
 
-compatible-holds : {M : Type 1} (t : ℕ) → compatible-lts.Closed (compatible-rows-below t, compatible-rows.Post) (compatible-at t) compatible.Post M
+compatible-holds : {M : Type 1} (t : ℕ) → compatible-lts.Closed (is-marked-reads.Asked, is-marked-reads.Learnt, compatible-rows-below t, compatible-rows.Post, mark-reads.Asked, mark-reads.Learnt) (compatible-at t) compatible.Post M
 compatible-holds t =
-    compatible-lts.spec (compatible-rows-below t, compatible-rows.Post) (compatible-at t) compatible.Post
+    compatible-lts.spec (is-marked-reads.Asked, is-marked-reads.Learnt, compatible-rows-below t, compatible-rows.Post, mark-reads.Asked, mark-reads.Learnt) (compatible-at t) compatible.Post
     (λ c.  -- returns
     let start = c .before .before .before .before in
     (numbers-equal (start .args .file .now) (start .args .types .now) (start .args .actual) (start .args .expected) (c .if1 .taken), start .pre .1 .1 .1 .1))
     (λ c. search needs)  -- mul-at
     (λ c. search needs)  -- add-at
-    (λ c.  -- slice-read-if2
+    (λ c κs.  -- is-marked-requires
     let pre = c .before .before .before .before .before .pre in
     omega (arith, pre .1 .1 .1 .1 .places, pre .1 .0 .types, (pre .1 .1 .1 .0 .0), (pre .1 .1 .1 .0 .1)))
+    (λ c. refl)  -- same-length
     (λ c.  -- returns-2
-    let start = c .before .before .before .before .before .before in
-    (sym (start .pre .1 .1 .1 .1 .marked (start .args .actual) (start .args .expected) (start .pre .1 .1 .1 .0 .0) (start .pre .1 .1 .1 .0 .1) (c .if2 .taken)), start .pre .1 .1 .1 .1))
+    let start = c .before .before .before .before .before .before .before in
+    (sym (start .pre .1 .1 .1 .1 .marked (start .args .actual) (start .args .expected) (start .pre .1 .1 .1 .0 .0) (start .pre .1 .1 .1 .0 .1) (eqb-true _ _ (sym (c .before .is-marked .ensures) ∙ c .if2 .taken))), start .pre .1 .1 .1 .1))
     (λ c κs.  -- compatible-rows-requires
-    let pre = c .before .before .before .before .before .before .before .pre in
+    let pre = c .before .before .before .before .before .before .before .before .pre in
     (omega arith, pre .1))
-    (λ c.  -- slice-write-seen
-    let rows = c .before .before .before .compatible-rows in
-    let pre = c .before .before .before .before .before .before .before .before .before .before .before .pre in
+    (λ c κs.  -- mark-requires
+    let rows = c .before .before .before .before .compatible-rows in
+    let pre = c .before .before .before .before .before .before .before .before .before .before .before .before .before .pre in
     omega (arith, rows .ensures .1 .places, pre .1 .0 .types, (pre .1 .1 .1 .0 .0), (pre .1 .1 .1 .0 .1)))
-    (λ c.  -- same-length
-    let rows = c .before .before .before .compatible-rows in
-    simp length-set (rows .kept .1 .1 .0))
+    (λ c. c .before .before .mark .kept .0 ∙ c .before .before .before .before .before .before .before .compatible-rows .kept .1 .1 .0)  -- same-length-2
     (λ c.  -- returns-3
-    let start = c .before .before .before .before .before .before .before .before .before .before .before in
-    let if1 = c .before .before .before .before .before .before .before .if1 in
-    let rows = c .before .before .before .compatible-rows in
+    let start = c .before .before .before .before .before .before .before .before .before .before .before .before .before .before .before .before in
+    let if1 = c .before .before .before .before .before .before .before .before .before .before .before .before .if1 in
+    let rows = c .before .before .before .before .before .before .before .compatible-rows in
+    let marked = c .before .before .mark in
     let good : true ≡ are-types-compatible (table-of (start .args .file .now) (start .args .types .now)) (start .args .actual) (start .args .expected) =
-    rows-tested (start .args .file .now) (start .args .types .now) (start .pre .1 .1 .0) (start .args .actual) (start .args .expected) (if1 .left) (rows .result) true (rows .ensures .0) (c .if3 .taken) in
-    (good, mark (start .args .file .now) (start .args .types .now) (rows .last .1 .1 .0) (start .args .actual) (start .args .expected) (start .pre .1 .0 .types) (start .pre .1 .1 .1 .0 .0) (start .pre .1 .1 .1 .0 .1) good (rows .ensures .1)))
-    (λ c. search needs)  -- same-length-2
+    rows-tested (start .args .file .now) (start .args .types .now) (start .pre .1 .1 .0) (start .args .actual) (start .args .expected) (if1 .left) (rows .result) true (rows .ensures .0) (c .before .before .before .before .if3 .taken) in
+    (good, mark (start .args .file .now) (start .args .types .now) (rows .last .1 .1 .0) (marked .last .0) (start .args .actual) (start .args .expected) (start .pre .1 .0 .types) (start .pre .1 .1 .1 .0 .0) (start .pre .1 .1 .1 .0 .1) good (rows .ensures .1) (marked .ensures)))
+    (λ c. c .before .before .before .compatible-rows .kept .1 .1 .0)  -- same-length-3
     (λ c.  -- returns-4
-    let start = c .before .before .before .before .before .before .before .before .before .before .before in
-    let if1 = c .before .before .before .before .before .before .before .if1 in
+    let start = c .before .before .before .before .before .before .before .before .before .before .before .before in
+    let if1 = c .before .before .before .before .before .before .before .before .if1 in
     let rows = c .before .before .before .compatible-rows in
     (rows-tested (start .args .file .now) (start .args .types .now) (start .pre .1 .1 .0) (start .args .actual) (start .args .expected) (if1 .left) (rows .result) false (rows .ensures .0) (c .if3 .left), rows .ensures .1))
 

@@ -11,7 +11,7 @@ slice-aggregate-compatible c = search needs
 compatible-requires : tie.Need-compatible-requires
 compatible-requires c κs =
     let start = c .before .before .before in
-    (start .pre .0, (start .pre .1 .0, (start .pre .1 .1, fresh (start .args .file .now) (start .args .types .now) 65536 refl)))
+    (start .pre .0, (start .pre .1 .0, (start .pre .1 .1, fresh (start .args .file .now) (start .args .types .now) 2048 refl)))
 
 returns : tie.Need-returns
 returns c = search needs
