@@ -32,7 +32,8 @@ const FILE_BYTES: usize = 65536;
 
 const FIRST_LINE_BYTES: usize = 8;
 
-fn clear(words: &mut [u32])
+// Sets all words to zero.
+pub fn clear(words: &mut [u32])
     ensures { λ _. ⌜ now (words .exit) ≡ replicate (length (now (words .entry))) 0 ⌝ }
 {
     let mut i = 0;

@@ -1,5 +1,8 @@
 // The five tracked functions of type_resolution.rs, over the record words, the table of types and the list of open demands.
 // They call each other in a cycle; each of the five opens its demand first, so the number of free places falls.
+// They are `resolve_ast_type`, `definition_semantic_type`, `struct_semantic_data`, `function_semantic_signature` and `expression_semantic_type` there; a
+// cycle's modules are named after all its members, and a library carries checked modules only under names of at most 249 bytes, so here they are
+// `ast_type`, `def_type`, `struct_data`, `fn_signature` and `expr_type`, and their helpers have the names of the file's keywords.
 use demands::Entered;
 use demands::Place;
 use records::BinaryOp;
@@ -222,7 +225,8 @@ fn enter_expression(
 
 // ------------------------------------------------------------------ resolve_ast_type
 
-pub fn resolve_ast_type(
+// `resolve_ast_type`.
+pub fn ast_type(
     file: &[u8],
     words: &[u32],
     types: &mut [u32],
@@ -273,16 +277,7 @@ fn ty(
             );
             named(file, words, types, demands, depth, m, found)
         }
-        TypeExpr::Pointer(t) => match resolve_ast_type(
-            file,
-            words,
-            types,
-            demands,
-            depth,
-            m,
-            t,
-            s,
-        ) {
+        TypeExpr::Pointer(t) => match ast_type(file, words, types, demands, depth, m, t, s) {
             Resolved::Refused(n) => Resolved::Refused(n),
             Resolved::Answered(element) => type_table::intern_pointer(file, types, element),
         },
@@ -306,15 +301,7 @@ fn named(
 {
     match found {
         DefinitionLink::Absent => Resolved::Answered(type_table::ERROR),
-        DefinitionLink::To(d) => match definition_semantic_type(
-            file,
-            words,
-            types,
-            demands,
-            depth,
-            m,
-            d,
-        ) {
+        DefinitionLink::To(d) => match def_type(file, words, types, demands, depth, m, d) {
             Resolved::Refused(n) => Resolved::Refused(n),
             Resolved::Answered(t) => Resolved::Answered(type_table::struct_or_error(types, t)),
         },
@@ -371,7 +358,7 @@ fn arr(
     if views::names_array_expr(words, m, t) {
         return Resolved::Answered(type_table::ERROR);
     }
-    match resolve_ast_type(file, words, types, demands, depth, m, t, s) {
+    match ast_type(file, words, types, demands, depth, m, t, s) {
         Resolved::Refused(n) => Resolved::Refused(n),
         Resolved::Answered(element) => match type_table::array_of(types, element) {
             FoundArray::Found(_, _) => Resolved::Answered(type_table::ERROR),
@@ -402,7 +389,7 @@ fn all(
     let mut i: u32 = 0;
     while i < count {
         let t = records::item_value(words, first, i);
-        match resolve_ast_type(file, words, types, demands, depth, m, t, s) {
+        match ast_type(file, words, types, demands, depth, m, t, s) {
             Resolved::Refused(n) => {
                 return Collected::Refused(n);
             }
@@ -417,7 +404,8 @@ fn all(
 
 // ------------------------------------------------------------------ definition_semantic_type
 
-pub fn definition_semantic_type(
+// `definition_semantic_type`.
+pub fn def_type(
     file: &[u8],
     words: &[u32],
     types: &mut [u32],
@@ -459,11 +447,11 @@ fn def(
 {
     match kind {
         DefinitionKind::Function(_, _) => {
-            let signature = function_semantic_signature(file, words, types, demands, depth, m, d);
+            let signature = fn_signature(file, words, types, demands, depth, m, d);
             or_error(signature)
         }
         DefinitionKind::Struct(_) => {
-            let data = struct_semantic_data(file, words, types, demands, depth, m, d);
+            let data = struct_data(file, words, types, demands, depth, m, d);
             or_error(data)
         }
         DefinitionKind::Const(t, e) => var(
@@ -491,7 +479,7 @@ fn def(
                 e,
                 type_table::UNKNOWN,
             ),
-            ExpressionLink::To(x) => match expression_semantic_type(
+            ExpressionLink::To(x) => match expr_type(
                 file,
                 words,
                 types,
@@ -510,16 +498,7 @@ fn def(
                 )),
             },
         },
-        DefinitionKind::Parameter(t) => resolve_ast_type(
-            file,
-            words,
-            types,
-            demands,
-            depth,
-            m,
-            t,
-            s,
-        ),
+        DefinitionKind::Parameter(t) => ast_type(file, words, types, demands, depth, m, t, s),
         DefinitionKind::Use(home, item) => match views::imported_definition(
             file,
             words,
@@ -527,15 +506,7 @@ fn def(
             item,
         ) {
             FoundImport::Absent => Resolved::Answered(type_table::ERROR),
-            FoundImport::Found(k, x) => definition_semantic_type(
-                file,
-                words,
-                types,
-                demands,
-                depth,
-                k,
-                x,
-            ),
+            FoundImport::Found(k, x) => def_type(file, words, types, demands, depth, k, x),
         },
         DefinitionKind::LoopVariable => Resolved::Answered(type_table::FELT),
     }
@@ -558,9 +529,9 @@ fn var(
     ensures { λ r. ⌜ Runs typed (now (file .entry)) (now (words .entry)) (declared-type m (s .0) (type-link-of t) (expression-link-of e) otherwise) depth (now (types .entry)) (now (demands .entry)) (now (types .exit)) (now (demands .exit)) r ⌝ }
 {
     match t {
-        TypeLink::To(x) => resolve_ast_type(file, words, types, demands, depth, m, x, s),
+        TypeLink::To(x) => ast_type(file, words, types, demands, depth, m, x, s),
         TypeLink::Absent => match e {
-            ExpressionLink::To(y) => expression_semantic_type(
+            ExpressionLink::To(y) => expr_type(
                 file,
                 words,
                 types,
@@ -577,7 +548,8 @@ fn var(
 
 // ------------------------------------------------------------------ struct_semantic_data, function_semantic_signature
 
-pub fn struct_semantic_data(
+// `struct_semantic_data`.
+pub fn struct_data(
     file: &[u8],
     words: &[u32],
     types: &mut [u32],
@@ -651,7 +623,8 @@ fn fields(
     }
 }
 
-pub fn function_semantic_signature(
+// `function_semantic_signature`.
+pub fn fn_signature(
     file: &[u8],
     words: &[u32],
     types: &mut [u32],
@@ -710,7 +683,7 @@ fn sig(
     let mut params = [0u32; 2048];
     match all(file, words, types, demands, depth, m, s, list, &mut params) {
         Collected::Refused(n) => Linked::Refused(n),
-        Collected::All(n) => match resolve_ast_type(file, words, types, demands, depth, m, t, s) {
+        Collected::All(n) => match ast_type(file, words, types, demands, depth, m, t, s) {
             Resolved::Refused(k) => Linked::Refused(k),
             Resolved::Answered(x) => {
                 let f = type_table::intern_function(file, types, m, d.0, &params[..n], x);
@@ -722,7 +695,8 @@ fn sig(
 
 // ------------------------------------------------------------------ expression_semantic_type
 
-pub fn expression_semantic_type(
+// `expression_semantic_type`.
+pub fn expr_type(
     file: &[u8],
     words: &[u32],
     types: &mut [u32],
@@ -806,28 +780,20 @@ fn origin(
         ) {
             FoundFieldType::Absent => Linked::Absent,
             FoundFieldType::Found(t, scope) => {
-                let found = resolve_ast_type(file, words, types, demands, depth, m, t, scope);
+                let found = ast_type(file, words, types, demands, depth, m, t, scope);
                 known(found)
             }
         },
         Origin::Arg(callee, i) => match views::argument_definition(words, m, callee) {
             DefinitionLink::Absent => Linked::Absent,
             DefinitionLink::To(d) => {
-                let signature = function_semantic_signature(
-                    file,
-                    words,
-                    types,
-                    demands,
-                    depth,
-                    m,
-                    d,
-                );
+                let signature = fn_signature(file, words, types, demands, depth, m, d);
                 passed(types, signature, i)
             }
         },
         Origin::AssignmentRhs(lhs) => {
             if views::is_unsuffixed_literal(x) {
-                let found = expression_semantic_type(
+                let found = expr_type(
                     file,
                     words,
                     types,
@@ -845,15 +811,7 @@ fn origin(
         Origin::ReturnExpr => match semantic_index::first_function_around(words, m, s) {
             DefinitionLink::Absent => Linked::Absent,
             DefinitionLink::To(d) => {
-                let signature = function_semantic_signature(
-                    file,
-                    words,
-                    types,
-                    demands,
-                    depth,
-                    m,
-                    d,
-                );
+                let signature = fn_signature(file, words, types, demands, depth, m, d);
                 returned(types, signature)
             }
         },
@@ -911,15 +869,7 @@ fn node(
                     name,
                 ) {
                     DefinitionLink::Absent => Resolved::Answered(type_table::ERROR),
-                    DefinitionLink::To(d) => definition_semantic_type(
-                        file,
-                        words,
-                        types,
-                        demands,
-                        depth,
-                        m,
-                        d,
-                    ),
+                    DefinitionLink::To(d) => def_type(file, words, types, demands, depth, m, d),
                 }
             }
         }
@@ -997,20 +947,11 @@ fn node(
             e,
             size,
         ),
-        Expression::Cast(t) => resolve_ast_type(file, words, types, demands, depth, m, t, s),
+        Expression::Cast(t) => ast_type(file, words, types, demands, depth, m, t, s),
         Expression::New(t, e) => new(file, words, types, demands, depth, m, s, t, e),
         Expression::Parenthesized(inner) => match inner {
             ExpressionLink::Absent => Resolved::Answered(type_table::ERROR),
-            ExpressionLink::To(e) => expression_semantic_type(
-                file,
-                words,
-                types,
-                demands,
-                depth,
-                m,
-                e,
-                context,
-            ),
+            ExpressionLink::To(e) => expr_type(file, words, types, demands, depth, m, e, context),
         },
     }
 }
@@ -1035,7 +976,7 @@ fn lit(
         FoundType::Found(t) => Resolved::Answered(t),
         FoundType::Absent => match expected {
             TypeLink::Absent => Resolved::Answered(type_table::numeric_context(types, context)),
-            TypeLink::To(t) => match resolve_ast_type(file, words, types, demands, depth, m, t, s) {
+            TypeLink::To(t) => match ast_type(file, words, types, demands, depth, m, t, s) {
                 Resolved::Refused(n) => Resolved::Refused(n),
                 Resolved::Answered(x) => Resolved::Answered(numeric_or(types, x, context)),
             },
@@ -1068,16 +1009,7 @@ fn new(
         FoundType::Found(type_table::FELT),
     ) {
         Resolved::Refused(n) => Resolved::Refused(n),
-        Resolved::Answered(_) => match resolve_ast_type(
-            file,
-            words,
-            types,
-            demands,
-            depth,
-            m,
-            t,
-            s,
-        ) {
+        Resolved::Answered(_) => match ast_type(file, words, types, demands, depth, m, t, s) {
             Resolved::Refused(n) => Resolved::Refused(n),
             Resolved::Answered(element) => type_table::intern_pointer(file, types, element),
         },
@@ -1100,16 +1032,7 @@ fn only(
 {
     match child {
         ExpressionLink::Absent => Resolved::Answered(0),
-        ExpressionLink::To(e) => expression_semantic_type(
-            file,
-            words,
-            types,
-            demands,
-            depth,
-            m,
-            e,
-            context,
-        ),
+        ExpressionLink::To(e) => expr_type(file, words, types, demands, depth, m, e, context),
     }
 }
 
@@ -1129,7 +1052,7 @@ fn un(
 {
     match operand {
         ExpressionLink::Absent => Resolved::Refused(6),
-        ExpressionLink::To(e) => match expression_semantic_type(
+        ExpressionLink::To(e) => match expr_type(
             file,
             words,
             types,
@@ -1172,9 +1095,9 @@ fn bin(
         return Resolved::Refused(6);
     };
     if views::right_first(words, m, op, a, b) {
-        match expression_semantic_type(file, words, types, demands, depth, m, b, context) {
+        match expr_type(file, words, types, demands, depth, m, b, context) {
             Resolved::Refused(n) => Resolved::Refused(n),
-            Resolved::Answered(y) => match expression_semantic_type(
+            Resolved::Answered(y) => match expr_type(
                 file,
                 words,
                 types,
@@ -1195,9 +1118,9 @@ fn bin(
             },
         }
     } else {
-        match expression_semantic_type(file, words, types, demands, depth, m, a, context) {
+        match expr_type(file, words, types, demands, depth, m, a, context) {
             Resolved::Refused(n) => Resolved::Refused(n),
-            Resolved::Answered(x) => match expression_semantic_type(
+            Resolved::Answered(x) => match expr_type(
                 file,
                 words,
                 types,
@@ -1235,7 +1158,7 @@ fn member(
 {
     match object {
         ExpressionLink::Absent => Resolved::Answered(type_table::ERROR),
-        ExpressionLink::To(e) => match expression_semantic_type(
+        ExpressionLink::To(e) => match expr_type(
             file,
             words,
             types,
@@ -1275,7 +1198,7 @@ fn call(
     let ExpressionLink::To(e) = callee else {
         return Resolved::Answered(type_table::ERROR);
     };
-    match expression_semantic_type(file, words, types, demands, depth, m, e, FoundType::Absent) {
+    match expr_type(file, words, types, demands, depth, m, e, FoundType::Absent) {
         Resolved::Refused(n) => Resolved::Refused(n),
         Resolved::Answered(t) => match type_table::signature_of(types, t) {
             FoundSignature::Absent => Resolved::Answered(type_table::ERROR),
@@ -1343,7 +1266,7 @@ fn index(
 {
     match a {
         ExpressionLink::Absent => Resolved::Answered(type_table::ERROR),
-        ExpressionLink::To(e) => match expression_semantic_type(
+        ExpressionLink::To(e) => match expr_type(
             file,
             words,
             types,
@@ -1440,7 +1363,7 @@ fn elems(
             continue;
         };
         let context = type_table::item(types, contexts, i);
-        match expression_semantic_type(file, words, types, demands, depth, m, e, context) {
+        match expr_type(file, words, types, demands, depth, m, e, context) {
             Resolved::Refused(k) => {
                 return Collected::Refused(k);
             }
@@ -1469,7 +1392,7 @@ fn tidx(
 {
     match e {
         ExpressionLink::Absent => Resolved::Refused(6),
-        ExpressionLink::To(x) => match expression_semantic_type(
+        ExpressionLink::To(x) => match expr_type(
             file,
             words,
             types,
@@ -1510,7 +1433,7 @@ fn array(
     let ExpressionLink::To(e) = records::item_link(words, first, 0) else {
         return Resolved::Refused(6);
     };
-    match expression_semantic_type(file, words, types, demands, depth, m, e, hint) {
+    match expr_type(file, words, types, demands, depth, m, e, hint) {
         Resolved::Refused(n) => Resolved::Refused(n),
         Resolved::Answered(t) => match same(file, words, types, demands, depth, m, t, list) {
             Compared::Refused(n) => Resolved::Refused(n),
@@ -1542,7 +1465,7 @@ fn empty(
     let TypeLink::To(t) = expected else {
         return Resolved::Answered(type_table::ERROR);
     };
-    match resolve_ast_type(file, words, types, demands, depth, m, t, s) {
+    match ast_type(file, words, types, demands, depth, m, t, s) {
         Resolved::Refused(n) => Resolved::Refused(n),
         Resolved::Answered(x) => match type_table::array_of(types, x) {
             FoundArray::Absent => Resolved::Answered(type_table::ERROR),
@@ -1580,7 +1503,7 @@ fn same(
         let ExpressionLink::To(e) = element else {
             return Compared::Different;
         };
-        match expression_semantic_type(
+        match expr_type(
             file,
             words,
             types,
@@ -1621,16 +1544,7 @@ fn rep(
     let hint = type_table::element_hint(types, context);
     match element {
         ExpressionLink::Absent => Resolved::Refused(6),
-        ExpressionLink::To(e) => match expression_semantic_type(
-            file,
-            words,
-            types,
-            demands,
-            depth,
-            m,
-            e,
-            hint,
-        ) {
+        ExpressionLink::To(e) => match expr_type(file, words, types, demands, depth, m, e, hint) {
             Resolved::Refused(n) => Resolved::Refused(n),
             Resolved::Answered(t) => type_table::intern_array(file, types, t, size),
         },
@@ -1652,20 +1566,11 @@ pub fn resolve_question(
 {
     match question {
         Question::Expr(m, e, context) => match context {
-            TypeLink::Absent => expression_semantic_type(
-                file,
-                words,
-                types,
-                demands,
-                0,
-                m,
-                e,
-                FoundType::Absent,
-            ),
+            TypeLink::Absent => expr_type(file, words, types, demands, 0, m, e, FoundType::Absent),
             TypeLink::To(t) => asked_in(file, words, types, demands, m, e, t),
         },
-        Question::Def(m, d) => definition_semantic_type(file, words, types, demands, 0, m, d),
-        Question::Type(m, t, s) => resolve_ast_type(file, words, types, demands, 0, m, t, s),
+        Question::Def(m, d) => def_type(file, words, types, demands, 0, m, d),
+        Question::Type(m, t, s) => ast_type(file, words, types, demands, 0, m, t, s),
     }
 }
 
@@ -1686,9 +1591,9 @@ fn asked_in(
         FoundExpression::Absent => Resolved::Answered(type_table::ERROR),
         FoundExpression::Found(info) => {
             let s = info.scope;
-            match resolve_ast_type(file, words, types, demands, 0, m, t, s) {
+            match ast_type(file, words, types, demands, 0, m, t, s) {
                 Resolved::Refused(n) => Resolved::Refused(n),
-                Resolved::Answered(context) => expression_semantic_type(
+                Resolved::Answered(context) => expr_type(
                     file,
                     words,
                     types,

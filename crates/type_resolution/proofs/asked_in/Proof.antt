@@ -15,8 +15,8 @@ enum-told c = search needs
 enum-known-info : tie.Need-enum-known-info
 enum-known-info c = search needs
 
-resolve-ast-type-requires : tie.Need-resolve-ast-type-requires
-resolve-ast-type-requires c κs = search needs
+ast-type-requires : tie.Need-ast-type-requires
+ast-type-requires c κs = search needs
 
 enum-known-n : tie.Need-enum-known-n
 enum-known-n c = search needs
@@ -24,8 +24,8 @@ enum-known-n c = search needs
 enum-known-context : tie.Need-enum-known-context
 enum-known-context c = search needs
 
-expression-semantic-type-requires : tie.Need-expression-semantic-type-requires
-expression-semantic-type-requires c κs = search needs
+expr-type-requires : tie.Need-expr-type-requires
+expr-type-requires c κs = search needs
 
 returns : tie.Need-returns
 returns c = question-absent (c .before .before .before .before .before .before .pre) _ _ _ ((c .before .before .expression-in) .ensures) ((c .enum-told) .given .1)
@@ -37,7 +37,7 @@ same-length-2 : tie.Need-same-length-2
 same-length-2 c = search needs
 
 returns-2 : tie.Need-returns-2
-returns-2 c = question-found _ _ _ ((c .before .before .before .before .before .before .before .before .before .before .before .before .before .expression-in) .ensures) ((c .before .before .before .before .before .before .before .before .before .before .before .info) .given .1) (then-stop ((c .before .before .before .before .before .before .resolve-ast-type) .ensures) _ (is-refused ((c .before .n) .given .1)) (is-refused refl))
+returns-2 c = question-found _ _ _ ((c .before .before .before .before .before .before .before .before .before .before .before .before .before .expression-in) .ensures) ((c .before .before .before .before .before .before .before .before .before .before .before .info) .given .1) (then-stop ((c .before .before .before .before .before .before .ast-type) .ensures) _ (is-refused ((c .before .n) .given .1)) (is-refused refl))
 
 same-length-3 : tie.Need-same-length-3
 same-length-3 c = search needs
@@ -46,7 +46,7 @@ same-length-4 : tie.Need-same-length-4
 same-length-4 c = search needs
 
 returns-3 : tie.Need-returns-3
-returns-3 c = question-found _ _ _ ((c .before .before .before .before .before .before .before .before .before .before .before .before .before .before .before .before .before .before .before .expression-in) .ensures) ((c .before .before .before .before .before .before .before .before .before .before .before .before .before .before .before .before .before .info) .given .1) (then-on ((c .before .before .before .before .before .before .before .before .before .before .before .before .resolve-ast-type) .ensures) _ (is-typed ((c .before .before .before .before .before .before .before .context) .given .1)) ((c .before .before .before .expression-semantic-type) .ensures))
+returns-3 c = question-found _ _ _ ((c .before .before .before .before .before .before .before .before .before .before .before .before .before .before .before .before .before .before .before .expression-in) .ensures) ((c .before .before .before .before .before .before .before .before .before .before .before .before .before .before .before .before .before .info) .given .1) (then-on ((c .before .before .before .before .before .before .before .before .before .before .before .before .ast-type) .ensures) _ (is-typed ((c .before .before .before .before .before .before .before .context) .given .1)) ((c .before .before .before .expr-type) .ensures))
 
 pub asked-in-spec : {M : Type 1} → statement M
 asked-in-spec =
@@ -55,10 +55,10 @@ asked-in-spec =
     expression-in-requires
     enum-told
     enum-known-info
-    resolve-ast-type-requires
+    ast-type-requires
     enum-known-n
     enum-known-context
-    expression-semantic-type-requires
+    expr-type-requires
     returns
     same-length
     same-length-2

@@ -11,8 +11,8 @@ enum-known-question c = search needs
 enum-told : tie.Need-enum-told
 enum-told c = search needs
 
-expression-semantic-type-requires : tie.Need-expression-semantic-type-requires
-expression-semantic-type-requires c κs = search needs
+expr-type-requires : tie.Need-expr-type-requires
+expr-type-requires c κs = search needs
 
 enum-known-context : tie.Need-enum-known-context
 enum-known-context c = search needs
@@ -23,14 +23,14 @@ asked-in-requires c κs = search needs
 enum-known-question-2 : tie.Need-enum-known-question-2
 enum-known-question-2 c = search needs
 
-definition-semantic-type-requires : tie.Need-definition-semantic-type-requires
-definition-semantic-type-requires c κs = search needs
+def-type-requires : tie.Need-def-type-requires
+def-type-requires c κs = search needs
 
 enum-known-question-3 : tie.Need-enum-known-question-3
 enum-known-question-3 c = search needs
 
-resolve-ast-type-requires : tie.Need-resolve-ast-type-requires
-resolve-ast-type-requires c κs = search needs
+ast-type-requires : tie.Need-ast-type-requires
+ast-type-requires c κs = search needs
 
 same-length : tie.Need-same-length
 same-length c = search needs
@@ -40,7 +40,7 @@ same-length-2 c = search needs
 
 returns : tie.Need-returns
 unfolding question-program
-returns c = by-question _ ((c .before .before .before .before .before .before .before .before .before .question) .given .1) (by-context _ _ _ _ _ ((c .before .before .before .before .before .before .enum-told) .given .1) ((c .before .before .before .expression-semantic-type) .ensures))
+returns c = by-question _ ((c .before .before .before .before .before .before .before .before .before .question) .given .1) (by-context _ _ _ _ _ ((c .before .before .before .before .before .before .enum-told) .given .1) ((c .before .before .before .expr-type) .ensures))
 
 same-length-3 : tie.Need-same-length-3
 same-length-3 c = search needs
@@ -60,7 +60,7 @@ same-length-6 c = search needs
 
 returns-3 : tie.Need-returns-3
 unfolding question-program
-returns-3 c = by-question _ ((c .before .before .before .before .before .before .before .question2) .given .1) ((c .before .before .before .definition-semantic-type) .ensures)
+returns-3 c = by-question _ ((c .before .before .before .before .before .before .before .question2) .given .1) ((c .before .before .before .def-type) .ensures)
 
 same-length-7 : tie.Need-same-length-7
 same-length-7 c = search needs
@@ -70,7 +70,7 @@ same-length-8 c = search needs
 
 returns-4 : tie.Need-returns-4
 unfolding question-program
-returns-4 c = by-question _ ((c .before .before .before .before .before .before .before .question3) .given .1) ((c .before .before .before .resolve-ast-type) .ensures)
+returns-4 c = by-question _ ((c .before .before .before .before .before .before .before .question3) .given .1) ((c .before .before .before .ast-type) .ensures)
 
 pub resolve-question-spec : {M : Type 1} → statement M
 resolve-question-spec =
@@ -78,13 +78,13 @@ resolve-question-spec =
     (tie.spec
     enum-known-question
     enum-told
-    expression-semantic-type-requires
+    expr-type-requires
     enum-known-context
     asked-in-requires
     enum-known-question-2
-    definition-semantic-type-requires
+    def-type-requires
     enum-known-question-3
-    resolve-ast-type-requires
+    ast-type-requires
     same-length
     same-length-2
     returns

@@ -1,0 +1,373 @@
+// The public entries: a file is loaded, its questions are resolved, and their answer lines are written into a lent buffer.
+use demands::Place;
+use loader::Loaded;
+use records::FoundQuestion;
+use records::Question;
+use type_table::Resolved;
+use type_text::TypeText;
+ghost use mathlib.Core.Path.{_≡_};
+ghost use Prim.Native.Nat.{ℕ, _+_, _≤_, _<_};
+ghost use mathlib.Core.List.{List, _++_};
+ghost use lib.ListN.{length};
+ghost use Rattle.model.specs.Common.{bytes};
+ghost use Rattle.records.specs.Layout.{index-of};
+ghost use Rattle.records.specs.Meaning.{question-of};
+ghost use Rattle.resolution.specs.Answer.{decimal, type-text, Verdict, text-verdict, question-lead};
+ghost use Rattle.resolution.specs.TableOk.{TableOk};
+ghost use Rattle.type_table.specs.Layout.{table-of, Sound};
+ghost use Rattle.answers.specs.Steps.{LongIs, Exact, Loaded as HoldsFile, LeadPut, AskedIs, StepIs, line-with};
+ghost use Rattle.answers.specs.Steps.{TypedAnswered, QuestionAnswered, Stepped, LinesWritten};
+ghost use Rattle.answers.specs.Promises.{buffers, LongBuffers, ShortAnswer, Answered, ShortAnswers, AnsweredFrom};
+ghost use Rattle.answers.specs.Promises.{ExactAnswered, ExactAnsweredFrom};
+
+// One question's answer: a line of a type stands at the start of the answer buffer, with its length; refusal 6 to 10; or refusal 1 to 5
+// with its line, 0 where no line is at fault.
+pub enum LineAnswer {
+    Line(usize),
+    Refused(u32),
+    FileRefused(u32, u32),
+}
+
+// The lines of many questions: the first question whose line no longer fits, and how many bytes are written; all lines up to the last
+// question's, and how many bytes; or refusal 1 to 5 with its line.
+pub enum LinesAnswer {
+    More(u32, usize),
+    End(usize),
+    FileRefused(u32, u32),
+}
+
+// What became of a question: its line is written, it is refused, or its line has no room.
+pub enum Asked {
+    Line(usize),
+    Refused(u32),
+    NoRoom,
+}
+
+// What became of a line.
+pub enum Step {
+    Line(usize),
+    NoRoom,
+}
+
+const RECORD_WORDS: usize = 16384;
+
+const TYPE_WORDS: usize = 8192;
+
+const PLACES: usize = 256;
+
+const ANSWER_BYTES: usize = 4160;
+
+// ------------------------------------------------------------------ lines
+
+// Writes a question's kind, module and number, each with its tab.
+fn put_fields(kind: &[u8], m: u32, n: u32, out: &mut [u8]) -> usize
+    requires { ⌜ length (now kind) ≤ 5 ⌝ }
+    requires { ⌜ 64 ≤ length (now out) ⌝ }
+    ensures { λ r. ⌜ LeadPut (now (kind .entry) ++ (decimal m ++ (bytes "\t" ++ (decimal n ++ bytes "\t")))) (now (out .entry)) (now (out .exit)) r ⌝ }
+{
+    let first = type_text::put(out, 0, kind);
+    let second = type_text::put_decimal(out, first, m as u64);
+    let third = type_text::put(out, second, b"\t");
+    let fourth = type_text::put_decimal(out, third, n as u64);
+    type_text::put(out, fourth, b"\t")
+}
+
+fn put_lead(question: Question, out: &mut [u8]) -> usize
+    requires { ⌜ 64 ≤ length (now out) ⌝ }
+    ensures { λ r. ⌜ LeadPut (question-lead (question-of question)) (now (out .entry)) (now (out .exit)) r ⌝ }
+{
+    match question {
+        Question::Expr(m, e, _) => put_fields(b"expr\t", m, e.0, out),
+        Question::Def(m, d) => put_fields(b"def\t", m, d.0, out),
+        Question::Type(m, t, _) => put_fields(b"type\t", m, t, out),
+    }
+}
+
+// Writes the line of a type: the text straight behind the place of the lead fields, and these before it once the text stands.
+fn write_typed(file: &[u8], types: &[u32], t: u32, question: Question, out: &mut [u8]) -> Asked
+    requires { ⌜ Sound (now file) (now types) ⌝ }
+    requires { ⌜ TableOk (table-of (now file) (now types)) ⌝ }
+    ensures { λ r. ⌜ AskedIs (question-lead (question-of question)) (text-verdict (type-text (table-of (now (file .entry)) (now (types .entry))) t)) (now (out .entry)) (now (out .exit)) r ⌝ }
+{
+    let mut lead = [0u8; 64];
+    let named = put_lead(question, &mut lead);
+    let at = type_text::put(&mut lead, named, b"type\t");
+    let len = out.len();
+    if len <= at {
+        return Asked::NoRoom;
+    }
+    let end = len - 1;
+    match type_text::write_text(file, types, t, &mut out[at..end]) {
+        TypeText::TooLong => Asked::Refused(10),
+        TypeText::NoRoom => Asked::NoRoom,
+        TypeText::Written(n) => {
+            type_text::put(out, 0, &lead[..at]);
+            let last = type_text::put(out, at + n, b"\n");
+            Asked::Line(last)
+        }
+    }
+}
+
+// Writes the line of a refused question.
+fn write_refused(question: Question, number: u32, out: &mut [u8]) -> Step
+    ensures { λ r. ⌜ StepIs (line-with (question-lead (question-of question)) (Verdict.refused number)) (now (out .entry)) (now (out .exit)) r ⌝ }
+{
+    let mut line = [0u8; 64];
+    let named = put_lead(question, &mut line);
+    let word = type_text::put(&mut line, named, b"refused\t");
+    let digits = type_text::put_decimal(&mut line, word, number as u64);
+    let end = type_text::put(&mut line, digits, b"\n");
+    if out.len() < end {
+        return Step::NoRoom;
+    }
+    type_text::put(out, 0, &line[..end]);
+    Step::Line(end)
+}
+
+// ------------------------------------------------------------------ a question
+
+// Writes the line of a question's type. Without one the type words are all zero.
+fn answer_typed(file: &[u8], types: &mut [u32], t: u32, question: Question, out: &mut [u8]) -> Asked
+    requires { ⌜ Sound (now file) (now types) ⌝ }
+    requires { ⌜ TableOk (table-of (now file) (now types)) ⌝ }
+    requires { ⌜ length (now types) ≡ 8192 ⌝ }
+    ensures { λ r. ⌜ TypedAnswered (question-lead (question-of question)) (text-verdict (type-text (table-of (now (file .entry)) (now (types .entry))) t)) (now (types .entry)) (now (out .entry)) (now (types .exit)) (now (out .exit)) r ⌝ }
+{
+    match write_typed(file, types, t, question, out) {
+        Asked::Line(n) => Asked::Line(n),
+        Asked::Refused(number) => {
+            type_table::clear(types);
+            Asked::Refused(number)
+        }
+        Asked::NoRoom => {
+            type_table::clear(types);
+            Asked::NoRoom
+        }
+    }
+}
+
+// Resolves a question of the loaded file and writes its line if it has a type. No demand is open behind it.
+fn answer_question(
+    file: &[u8],
+    words: &[u32],
+    types: &mut [u32],
+    demands: &mut [Place],
+    question: Question,
+    out: &mut [u8],
+) -> Asked
+    requires { ⌜ HoldsFile (now file) (now words) (now types) (now demands) ⌝ }
+    ensures { λ r. ⌜ QuestionAnswered (now (file .entry)) (index-of (now (file .entry)) (now (words .entry))) (question-of question) (now (out .entry)) (now (types .exit)) (now (demands .exit)) (now (out .exit)) r ⌝ }
+{
+    type_table::start(types);
+    let resolved = type_resolution::resolve_question(file, words, types, demands, question);
+    demands::clear(demands);
+    match resolved {
+        Resolved::Answered(t) => answer_typed(file, types, t, question, out),
+        Resolved::Refused(number) => {
+            type_table::clear(types);
+            Asked::Refused(number)
+        }
+    }
+}
+
+// The same of a question that the file has, by its number; a refused one's line is written too.
+fn answer_line(
+    file: &[u8],
+    words: &[u32],
+    types: &mut [u32],
+    demands: &mut [Place],
+    number: u32,
+    out: &mut [u8],
+) -> Step
+    requires { ⌜ HoldsFile (now file) (now words) (now types) (now demands) ⌝ }
+    requires { ⌜ number < length (index-of (now file) (now words) .questions) ⌝ }
+    ensures { λ r. ⌜ Stepped (now (file .entry)) (index-of (now (file .entry)) (now (words .entry))) number (now (out .entry)) (now (types .exit)) (now (demands .exit)) (now (out .exit)) r ⌝ }
+{
+    let question = records::question_row(words, number);
+    match answer_question(file, words, types, demands, question, out) {
+        Asked::Line(n) => Step::Line(n),
+        Asked::NoRoom => Step::NoRoom,
+        Asked::Refused(refusal) => write_refused(question, refusal, out),
+    }
+}
+
+// The lines of the questions from a number on, while they fit.
+fn answer_lines(
+    file: &[u8],
+    words: &[u32],
+    types: &mut [u32],
+    demands: &mut [Place],
+    from: u32,
+    out: &mut [u8],
+) -> LinesAnswer
+    requires { ⌜ HoldsFile (now file) (now words) (now types) (now demands) ⌝ }
+    requires { ⌜ from ≤ length (index-of (now file) (now words) .questions) ⌝ }
+    requires { ⌜ length (now out) ≡ 4160 ⌝ }
+    ensures { λ r. ⌜ LinesWritten (now (file .entry)) (index-of (now (file .entry)) (now (words .entry))) from (now (types .entry)) (now (out .entry)) (now (demands .entry)) (now (types .exit)) (now (demands .exit)) (now (out .exit)) r ⌝ }
+{
+    let count = records::question_count(words);
+    let mut next = from;
+    let mut at: usize = 0;
+    while next < count {
+        match answer_line(file, words, types, demands, next, &mut out[at..]) {
+            Step::NoRoom => {
+                return LinesAnswer::More(next, at);
+            }
+            Step::Line(n) => {
+                at += n;
+            }
+        }
+        next += 1;
+    }
+    LinesAnswer::End(at)
+}
+
+// ------------------------------------------------------------------ the public entries
+
+// Whether the buffers are as long as they have to be.
+fn are_long(records: usize, types: usize, places: usize, bytes: usize) -> bool
+    ensures { λ r. ⌜ LongIs records types places bytes r ⌝ }
+{
+    if records < RECORD_WORDS {
+        return false;
+    }
+    if types < TYPE_WORDS {
+        return false;
+    }
+    if places < PLACES {
+        return false;
+    }
+    if bytes < ANSWER_BYTES {
+        return false;
+    }
+    true
+}
+
+fn answer_loaded(
+    file: &[u8],
+    number: u32,
+    words: &mut [u32],
+    types: &mut [u32],
+    demands: &mut [Place],
+    out: &mut [u8],
+) -> LineAnswer
+    requires { ⌜ HoldsFile (now file) (now words) (now types) (now demands) ⌝ }
+    requires { ⌜ 4160 ≤ length (now out) ⌝ }
+    ensures { λ r. ⌜ ExactAnswered (now (file .entry)) number (now (types .entry)) (now (demands .entry)) (now (out .entry)) (now (words .exit)) (now (types .exit)) (now (demands .exit)) (now (out .exit)) r ⌝ }
+{
+    match records::question_at(words, number) {
+        FoundQuestion::Absent => {
+            loader::clear(words);
+            LineAnswer::FileRefused(5, 0)
+        }
+        FoundQuestion::Found(question) => match answer_question(
+            file,
+            words,
+            types,
+            demands,
+            question,
+            out,
+        ) {
+            Asked::Line(n) => LineAnswer::Line(n),
+            Asked::Refused(refusal) => LineAnswer::Refused(refusal),
+            // No line is longer than the answer buffer.
+            Asked::NoRoom => LineAnswer::Refused(10),
+        },
+    }
+}
+
+fn answer_exact(
+    file: &[u8],
+    number: u32,
+    words: &mut [u32],
+    types: &mut [u32],
+    demands: &mut [Place],
+    out: &mut [u8],
+) -> LineAnswer
+    requires { ⌜ Exact (now words) (now types) (now demands) ⌝ }
+    requires { ⌜ 4160 ≤ length (now out) ⌝ }
+    ensures { λ r. ⌜ ExactAnswered (now (file .entry)) number (now (types .entry)) (now (demands .entry)) (now (out .entry)) (now (words .exit)) (now (types .exit)) (now (demands .exit)) (now (out .exit)) r ⌝ }
+{
+    match loader::load(file, words) {
+        Loaded::Refused(refusal, line) => LineAnswer::FileRefused(refusal, line),
+        Loaded::Accepted => answer_loaded(file, number, words, types, demands, out),
+    }
+}
+
+// Loads a file and answers the question of a number.
+pub fn answer(
+    file: &[u8],
+    number: u32,
+    records: &mut [u32],
+    types: &mut [u32],
+    demands: &mut [Place],
+    out: &mut [u8],
+) -> LineAnswer
+    ensures short { λ r. ⌜ ((LongBuffers (buffers (now (records .entry)) (now (types .entry)) (now (demands .entry)) (now (out .entry))) → ⊥)
+        → ShortAnswer (buffers (now (records .entry)) (now (types .entry)) (now (demands .entry)) (now (out .entry))) (buffers (now (records .exit)) (now (types .exit)) (now (demands .exit)) (now (out .exit))) r) ⌝ }
+    ensures full { λ r. ⌜ (LongBuffers (buffers (now (records .entry)) (now (types .entry)) (now (demands .entry)) (now (out .entry)))
+        → Answered (now (file .entry)) number (buffers (now (records .entry)) (now (types .entry)) (now (demands .entry)) (now (out .entry))) (buffers (now (records .exit)) (now (types .exit)) (now (demands .exit)) (now (out .exit))) r) ⌝ }
+{
+    if !are_long(records.len(), types.len(), demands.len(), out.len()) {
+        return LineAnswer::FileRefused(1, 0);
+    }
+    answer_exact(
+        file,
+        number,
+        &mut records[..RECORD_WORDS],
+        &mut types[..TYPE_WORDS],
+        &mut demands[..PLACES],
+        out,
+    )
+}
+
+fn lines_exact(
+    file: &[u8],
+    from: u32,
+    words: &mut [u32],
+    types: &mut [u32],
+    demands: &mut [Place],
+    out: &mut [u8],
+) -> LinesAnswer
+    requires { ⌜ Exact (now words) (now types) (now demands) ⌝ }
+    requires { ⌜ length (now out) ≡ 4160 ⌝ }
+    ensures { λ r. ⌜ ExactAnsweredFrom (now (file .entry)) from (now (types .entry)) (now (demands .entry)) (now (out .entry)) (now (words .exit)) (now (types .exit)) (now (demands .exit)) (now (out .exit)) r ⌝ }
+{
+    match loader::load(file, words) {
+        Loaded::Refused(refusal, line) => LinesAnswer::FileRefused(refusal, line),
+        Loaded::Accepted => {
+            if records::question_count(words) < from {
+                loader::clear(words);
+                return LinesAnswer::FileRefused(5, 0);
+            }
+            answer_lines(file, words, types, demands, from, out)
+        }
+    }
+}
+
+// Loads a file and answers its questions from a number on: as many as have lines that fit into 4,160 bytes, and at least one if there is one.
+pub fn answer_from(
+    file: &[u8],
+    from: u32,
+    records: &mut [u32],
+    types: &mut [u32],
+    demands: &mut [Place],
+    out: &mut [u8],
+) -> LinesAnswer
+    ensures short { λ r. ⌜ ((LongBuffers (buffers (now (records .entry)) (now (types .entry)) (now (demands .entry)) (now (out .entry))) → ⊥)
+        → ShortAnswers (buffers (now (records .entry)) (now (types .entry)) (now (demands .entry)) (now (out .entry))) (buffers (now (records .exit)) (now (types .exit)) (now (demands .exit)) (now (out .exit))) r) ⌝ }
+    ensures full { λ r. ⌜ (LongBuffers (buffers (now (records .entry)) (now (types .entry)) (now (demands .entry)) (now (out .entry)))
+        → AnsweredFrom (now (file .entry)) from (buffers (now (records .entry)) (now (types .entry)) (now (demands .entry)) (now (out .entry))) (buffers (now (records .exit)) (now (types .exit)) (now (demands .exit)) (now (out .exit))) r) ⌝ }
+{
+    if !are_long(records.len(), types.len(), demands.len(), out.len()) {
+        return LinesAnswer::FileRefused(1, 0);
+    }
+    lines_exact(
+        file,
+        from,
+        &mut records[..RECORD_WORDS],
+        &mut types[..TYPE_WORDS],
+        &mut demands[..PLACES],
+        &mut out[..ANSWER_BYTES],
+    )
+}

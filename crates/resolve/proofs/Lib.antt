@@ -1,0 +1,2 @@
+-- What one call of `answer_from` gives to print.
+pub mod Parts

@@ -1,0 +1,2 @@
+-- What `resolve` prints at a time. Definitions only.
+pub mod Parts

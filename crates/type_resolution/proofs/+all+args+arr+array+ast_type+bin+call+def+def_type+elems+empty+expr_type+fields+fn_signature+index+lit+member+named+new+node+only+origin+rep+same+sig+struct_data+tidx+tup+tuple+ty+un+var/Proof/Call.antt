@@ -1,0 +1,50 @@
+-- `call` meets its contract. Assumes nothing.
+use Rattle.type_resolution.proofs.Running.{is-typed, is-refused, is-ignored, not-ignored, answers, then-on, then-stop, if-true, if-false, some-runs, none-runs, data-runs}
+use mathlib.Core.Path.{refl, sym, ap, _∙_}
+use Rattle.records.specs.Meaning.{expression-link-of}
+use Rattle.type_table.specs.Meaning.{found-signature-of}
+use Rattle.resolution.specs.TypeResolution.{call-type}
+use Prim.Native.Nat.{ℕ}
+use native.Mathlib.Omega.{arith}
+use borrow.Author.Needs.{needs}
+use Rattle.type_resolution.proofs.args.Reads as args
+use Rattle.type_resolution.proofs.call.Reads as call
+use Rattle.views.proofs.callee_is_builtin.Reads as callee-is-builtin-reads
+use Rattle.type_resolution.proofs.expr_type.Reads as expr-type
+use Rattle.type_table.proofs.signature_of.Reads as signature-of-reads
+use Rattle.type_resolution.proofs.+all+args+arr+array+ast_type+bin+call+def+def_type+elems+empty+expr_type+fields+fn_signature+index+lit+member+named+new+node+only+origin+rep+same+sig+struct_data+tidx+tup+tuple+ty+un+var.Lts-call as lts
+use Rattle.type_resolution.proofs.+all+args+arr+array+ast_type+bin+call+def+def_type+elems+empty+expr_type+fields+fn_signature+index+lit+member+named+new+node+only+origin+rep+same+sig+struct_data+tidx+tup+tuple+ty+un+var.Proof.Measures.{call-at, args-below, expr-type-below}
+
+pub call-holds : {M : Type 1} (t : ℕ) → lts.Closed (callee-is-builtin-reads.Asked, callee-is-builtin-reads.Learnt, expr-type-below t, expr-type.Post, signature-of-reads.Asked, signature-of-reads.Learnt, args-below t, args.Post) (call-at t) call.Post M
+unfolding call-type
+call-holds t =
+    lts.spec
+    (callee-is-builtin-reads.Asked, callee-is-builtin-reads.Learnt, expr-type-below t, expr-type.Post, signature-of-reads.Asked, signature-of-reads.Learnt, args-below t, args.Post)
+    (call-at t)
+    call.Post
+    (λ c κs. search needs)  -- callee-is-builtin-requires
+    (λ c. if-true _ _ _ ((c .before .callee-is-builtin) .ensures .same) ((c .if1) .taken) (answers ((c .before .before .before .before .before .pre) .1) refl))  -- returns
+    (λ c. search needs)  -- enum-known-callee
+    (λ c. search needs)  -- enum-told
+    (λ c. if-false _ _ _ ((c .before .before .before .callee-is-builtin) .ensures .same) ((c .before .before .if1) .left) (none-runs _ _ _ (ap expression-link-of ((c .enum-told) .given .1)) (answers ((c .before .before .before .before .before .before .before .pre) .1) refl)))  -- returns-2
+    (λ c κs. (omega (arith, (c .before .before .before .before .before .before .before .before .before .before .pre) .0), ((c .before .before .before .before .before .before .before .before .before .before .pre) .1)))  -- expr-type-requires
+    (λ c. search needs)  -- enum-known-n
+    (λ c. search needs)  -- enum-known-t
+    (λ c κs. search needs)  -- signature-of-requires
+    (λ c. search needs)  -- enum-told-2
+    (λ c. search needs)  -- enum-known-params
+    (λ c κs. (omega (arith, (c .before .before .before .before .before .before .before .before .before .before .before .before .before .before .before .before .before .before .before .before .before .before .before .before .pre) .0), ((c .before .before .before .before .before .before .before .before .before .before .before .before .before .expr-type) .ensures .ready, (c .before .before .before .before .before .signature-of) .ensures .within _ ((c .before .before .before .before .before .before .before .before .before .before .before .before .before .expr-type) .ensures .ready .sound) _ _ ((c .before .before .before .params) .given .1))))  -- args-requires
+    (λ c. search needs)  -- enum-known-n-2
+    (λ c. search needs)  -- enum-told-3
+    (λ c. search needs)  -- same-length
+    (λ c. search needs)  -- same-length-2
+    (λ c. if-false _ _ _ ((c .before .before .before .before .before .before .before .before .before .before .before .before .before .callee-is-builtin) .ensures .same) ((c .before .before .before .before .before .before .before .before .before .before .before .before .if1) .left) (some-runs _ _ _ (ap expression-link-of ((c .before .before .before .before .before .before .before .before .before .before .callee) .given .1)) (then-stop ((c .before .before .before .before .before .before .expr-type) .ensures) _ (is-refused ((c .before .n) .given .1)) (is-refused refl))))  -- returns-3
+    (λ c. search needs)  -- same-length-3
+    (λ c. search needs)  -- same-length-4
+    (λ c. if-false _ _ _ ((c .before .before .before .before .before .before .before .before .before .before .before .before .before .before .before .before .before .callee-is-builtin) .ensures .same) ((c .before .before .before .before .before .before .before .before .before .before .before .before .before .before .before .before .if1) .left) (some-runs _ _ _ (ap expression-link-of ((c .before .before .before .before .before .before .before .before .before .before .before .before .before .before .callee) .given .1)) (then-on ((c .before .before .before .before .before .before .before .before .before .before .expr-type) .ensures) _ (is-typed ((c .before .before .before .before .before .t) .given .1)) (data-runs _ _ (none-runs _ _ _ (sym ((c .before .before .signature-of) .ensures .same _) ∙ ap (found-signature-of _) ((c .enum-told2) .given .1)) (answers ((c .before .before .before .before .before .before .before .before .before .before .expr-type) .ensures .ready) refl))))))  -- returns-4
+    (λ c. search needs)  -- same-length-5
+    (λ c. search needs)  -- same-length-6
+    (λ c. if-false _ _ _ ((c .before .before .before .before .before .before .before .before .before .before .before .before .before .before .before .before .before .before .before .before .before .before .before .before .before .before .before .callee-is-builtin) .ensures .same) ((c .before .before .before .before .before .before .before .before .before .before .before .before .before .before .before .before .before .before .before .before .before .before .before .before .before .before .if1) .left) (some-runs _ _ _ (ap expression-link-of ((c .before .before .before .before .before .before .before .before .before .before .before .before .before .before .before .before .before .before .before .before .before .before .before .before .callee) .given .1)) (then-on ((c .before .before .before .before .before .before .before .before .before .before .before .before .before .before .before .before .before .before .before .before .expr-type) .ensures) _ (is-typed ((c .before .before .before .before .before .before .before .before .before .before .before .before .before .before .before .t) .given .1)) (data-runs _ _ (some-runs _ _ _ (sym ((c .before .before .before .before .before .before .before .before .before .before .before .before .signature-of) .ensures .same _) ∙ ap (found-signature-of _) ((c .before .before .before .before .before .before .before .before .before .before .params) .given .1)) (then-stop ((c .before .before .before .before .before .before .args2) .ensures) _ (not-ignored ((c .before .n2) .given .1)) (is-refused refl)))))))  -- returns-5
+    (λ c. search needs)  -- same-length-7
+    (λ c. search needs)  -- same-length-8
+    (λ c. if-false _ _ _ ((c .before .before .before .before .before .before .before .before .before .before .before .before .before .before .before .before .before .before .before .before .before .before .before .before .before .before .callee-is-builtin) .ensures .same) ((c .before .before .before .before .before .before .before .before .before .before .before .before .before .before .before .before .before .before .before .before .before .before .before .before .before .if1) .left) (some-runs _ _ _ (ap expression-link-of ((c .before .before .before .before .before .before .before .before .before .before .before .before .before .before .before .before .before .before .before .before .before .before .before .callee) .given .1)) (then-on ((c .before .before .before .before .before .before .before .before .before .before .before .before .before .before .before .before .before .before .before .expr-type) .ensures) _ (is-typed ((c .before .before .before .before .before .before .before .before .before .before .before .before .before .before .t) .given .1)) (data-runs _ _ (some-runs _ _ _ (sym ((c .before .before .before .before .before .before .before .before .before .before .before .signature-of) .ensures .same _) ∙ ap (found-signature-of _) ((c .before .before .before .before .before .before .before .before .before .params) .given .1)) (then-on ((c .before .before .before .before .before .args2) .ensures) _ (is-ignored ((c .enum-told3) .given .1)) (answers ((c .before .before .before .before .before .args2) .ensures .ready) refl)))))))  -- returns-6

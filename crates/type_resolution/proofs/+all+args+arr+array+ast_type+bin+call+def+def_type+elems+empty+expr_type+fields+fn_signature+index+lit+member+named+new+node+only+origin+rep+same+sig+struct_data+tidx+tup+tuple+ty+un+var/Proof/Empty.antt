@@ -1,0 +1,53 @@
+-- `empty` meets its contract. Assumes nothing.
+use Rattle.type_resolution.proofs.Running.{is-typed, is-refused, answers, then-on, then-stop, if-true, if-false, some-runs, none-runs, data-runs}
+use Rattle.type_resolution.proofs.Below.{interns-runs}
+use Rattle.type_resolution.proofs.Arms.{is-array, no-array, element-below, hint-at, eq-eqb, ne-eqb}
+use mathlib.Core.Path.{refl, sym, ap}
+use Rattle.records.specs.Meaning.{type-link-of}
+use Rattle.type_table.specs.Meaning.{found-type-of}
+use Rattle.resolution.specs.TypeResolution.{empty-array-type}
+use Rattle.type_resolution.specs.Shapes.{empty-array-in}
+use Prim.Native.Nat.{ℕ}
+use native.Mathlib.Omega.{arith}
+use borrow.Author.Needs.{needs}
+use Rattle.type_table.proofs.array_of.Reads as array-of-reads
+use Rattle.type_resolution.proofs.empty.Reads as empty
+use Rattle.type_table.proofs.intern_array.Reads as intern-array-reads
+use Rattle.type_resolution.proofs.ast_type.Reads as ast-type
+use Rattle.type_resolution.proofs.+all+args+arr+array+ast_type+bin+call+def+def_type+elems+empty+expr_type+fields+fn_signature+index+lit+member+named+new+node+only+origin+rep+same+sig+struct_data+tidx+tup+tuple+ty+un+var.Lts-empty as lts
+use Rattle.type_resolution.proofs.+all+args+arr+array+ast_type+bin+call+def+def_type+elems+empty+expr_type+fields+fn_signature+index+lit+member+named+new+node+only+origin+rep+same+sig+struct_data+tidx+tup+tuple+ty+un+var.Proof.Measures.{empty-at, ast-type-below}
+
+pub empty-holds : {M : Type 1} (t : ℕ) → lts.Closed (intern-array-reads.Asked, intern-array-reads.Learnt, ast-type-below t, ast-type.Post, array-of-reads.Asked, array-of-reads.Learnt) (empty-at t) empty.Post M
+unfolding empty-array-in empty-array-type
+empty-holds t =
+    lts.spec
+    (intern-array-reads.Asked, intern-array-reads.Learnt, ast-type-below t, ast-type.Post, array-of-reads.Asked, array-of-reads.Learnt)
+    (empty-at t)
+    empty.Post
+    (λ c. search needs)  -- enum-known-hint
+    (λ c κs. ((c .before .before .before .before .before .before .before .pre) .1 .0 .sound, hint-at _ _ ((c .before .before .hint) .given .1) ((c .before .before .before .before .before .before .before .pre) .1 .1)))  -- intern-array-requires
+    (λ c. search needs)  -- same-length
+    (λ c. some-runs _ _ _ (ap found-type-of ((c .before .before .before .before .before .hint) .given .1)) (interns-runs ((c .before .before .before .before .before .before .before .before .before .before .pre) .1 .0) ((c .before .before .intern-array) .ensures)))  -- returns
+    (λ c. search needs)  -- enum-told
+    (λ c. search needs)  -- enum-known-expected
+    (λ c. search needs)  -- enum-told-2
+    (λ c. none-runs _ _ _ (ap found-type-of ((c .before .before .enum-told) .given .1)) (none-runs _ _ _ (ap type-link-of ((c .enum-told2) .given .1)) (answers ((c .before .before .before .before .before .before .before .pre) .1 .0) refl)))  -- returns-2
+    (λ c κs. (omega (arith, (c .before .before .before .before .before .before .before .before .before .before .pre) .0), ((c .before .before .before .before .before .before .before .before .before .before .pre) .1 .0)))  -- ast-type-requires
+    (λ c. search needs)  -- enum-known-n
+    (λ c. search needs)  -- enum-known-x
+    (λ c κs. search needs)  -- array-of-requires
+    (λ c. search needs)  -- enum-told-3
+    (λ c. search needs)  -- enum-known-element
+    (λ c κs. ((c .before .before .before .before .before .before .before .before .before .before .before .before .before .ast-type) .ensures .ready .sound, element-below ((c .before .before .before .before .before .before .before .before .before .before .before .before .before .ast-type) .ensures .ready) _ (is-array _ ((c .before .before .before .before .before .array-of) .ensures _) ((c .before .before .before .element) .given .1))))  -- intern-array-requires-2
+    (λ c. search needs)  -- same-length-2
+    (λ c. search needs)  -- same-length-3
+    (λ c. none-runs _ _ _ (ap found-type-of ((c .before .before .before .before .before .before .before .before .before .before .before .before .enum-told) .given .1)) (some-runs _ _ _ (ap type-link-of ((c .before .before .before .before .before .before .before .before .before .before .expected) .given .1)) (then-stop ((c .before .before .before .before .before .before .ast-type) .ensures) _ (is-refused ((c .before .n) .given .1)) (is-refused refl))))  -- returns-3
+    (λ c. search needs)  -- same-length-4
+    (λ c. search needs)  -- same-length-5
+    (λ c. none-runs _ _ _ (ap found-type-of ((c .before .before .before .before .before .before .before .before .before .before .before .before .before .before .before .before .enum-told) .given .1)) (some-runs _ _ _ (ap type-link-of ((c .before .before .before .before .before .before .before .before .before .before .before .before .before .before .expected) .given .1)) (then-on ((c .before .before .before .before .before .before .before .before .before .before .ast-type) .ensures) _ (is-typed ((c .before .before .before .before .before .x) .given .1)) (data-runs _ _ (none-runs _ _ _ (no-array _ ((c .before .before .array-of) .ensures _) ((c .enum-told3) .given .1)) (answers ((c .before .before .before .before .before .before .before .before .before .before .ast-type) .ensures .ready) refl))))))  -- returns-4
+    (λ c. search needs)  -- same-length-6
+    (λ c. search needs)  -- same-length-7
+    (λ c. none-runs _ _ _ (ap found-type-of ((c .before .before .before .before .before .before .before .before .before .before .before .before .before .before .before .before .before .before .before .before .before .before .enum-told) .given .1)) (some-runs _ _ _ (ap type-link-of ((c .before .before .before .before .before .before .before .before .before .before .before .before .before .before .before .before .before .before .before .before .expected) .given .1)) (then-on ((c .before .before .before .before .before .before .before .before .before .before .before .before .before .before .before .before .ast-type) .ensures) _ (is-typed ((c .before .before .before .before .before .before .before .before .before .before .before .x) .given .1)) (data-runs _ _ (some-runs _ _ _ (is-array _ ((c .before .before .before .before .before .before .before .before .array-of) .ensures _) ((c .before .before .before .before .before .before .element) .given .1)) (if-true _ _ _ (sym (eq-eqb _ _ ((c .before .before .before .before .if1) .taken))) refl (interns-runs ((c .before .before .before .before .before .before .before .before .before .before .before .before .before .before .before .before .ast-type) .ensures .ready) ((c .before .before .intern-array2) .ensures))))))))  -- returns-5
+    (λ c. search needs)  -- same-length-8
+    (λ c. search needs)  -- same-length-9
+    (λ c. none-runs _ _ _ (ap found-type-of ((c .before .before .before .before .before .before .before .before .before .before .before .before .before .before .before .before .before .before .enum-told) .given .1)) (some-runs _ _ _ (ap type-link-of ((c .before .before .before .before .before .before .before .before .before .before .before .before .before .before .before .before .expected) .given .1)) (then-on ((c .before .before .before .before .before .before .before .before .before .before .before .before .ast-type) .ensures) _ (is-typed ((c .before .before .before .before .before .before .before .x) .given .1)) (data-runs _ _ (some-runs _ _ _ (is-array _ ((c .before .before .before .before .array-of) .ensures _) ((c .before .before .element) .given .1)) (if-false _ _ _ (sym (ne-eqb _ _ ((c .if1) .left))) refl (answers ((c .before .before .before .before .before .before .before .before .before .before .before .before .ast-type) .ensures .ready) refl)))))))  -- returns-6
