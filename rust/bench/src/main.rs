@@ -1,6 +1,10 @@
-//! Times of the proved functions against the Rust: loading and lookups. `run.sh` makes the static
-//! library that this links.
+//! Times of the proved functions against the Rust: loading, lookups and answering. `run.sh` makes the
+//! static library that this links.
 
+#[cfg(originals)]
+mod answered_files;
+#[cfg(originals)]
+mod answering;
 mod compare;
 mod files;
 mod hash_maps;
@@ -13,10 +17,13 @@ use std::process::ExitCode;
 
 const HELP: &str = "\
 usage: bench [OPTION...]
+       bench answers [OPTION...]
        bench compare [OPTION...] N SEED
 
-Without `compare`: compares the words that the proved `load` writes for the measured files with those
+Without a word: compares the words that the proved `load` writes for the measured files with those
 that docs/LAYOUT.md sets out, then prints two tables, loading, and lookups on the largest index.
+`answers` compares the lines with the original's, and prints two tables, whole files and how the
+times grow; it needs the original sources.
 `compare` does so for N generated files, most of them with faults (those of `typetool check-index`),
 and compares the refusals with the Rust loader's; differing files are written to target/compare.
 
@@ -54,12 +61,35 @@ fn main() -> ExitCode {
     let words: Vec<&str> = words.iter().map(String::as_str).collect();
     match words[..] {
         [] => measure(&files, rounds, compare),
+        ["answers"] => answers(&files, rounds),
         ["compare", count, seed] => match (count.parse(), seed.parse()) {
             (Ok(count), Ok(seed)) => ended(compare::run(count, seed, compare, "target/compare")),
             _ => wrong("`compare` needs two numbers"),
         },
         _ => wrong("these arguments fit no form"),
     }
+}
+
+#[cfg(originals)]
+fn answers(files: &[files::File], rounds: usize) -> ExitCode {
+    let (whole, growing) = (answered_files::whole(files), answered_files::growing());
+    let measured = oracle::with_large_stack(|| {
+        answering::whole_files(&whole, rounds)?;
+        println!();
+        answering::growth(&growing, rounds)
+    });
+    match measured {
+        Ok(()) => ExitCode::SUCCESS,
+        Err(difference) => {
+            println!("{difference}");
+            ExitCode::FAILURE
+        }
+    }
+}
+
+#[cfg(not(originals))]
+fn answers(_: &[files::File], _: usize) -> ExitCode {
+    wrong("`answers` needs the original Cairo-M sources")
 }
 
 fn ended(all_equal: Result<bool, String>) -> ExitCode {

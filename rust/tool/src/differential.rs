@@ -27,6 +27,7 @@ const REDUCING: Duration = Duration::from_secs(60);
 impl Run {
     /// True if all files give equal lines.
     pub fn run(&self) -> Result<bool, String> {
+        let started = Instant::now();
         let mut tally = Tally::default();
         let mut progress = Progress::new();
         for (name, bytes) in self.files() {
@@ -49,7 +50,8 @@ impl Run {
             tally.add(&expected);
             progress.say(|| tally.report());
         }
-        eprintln!("{}", tally.report());
+        let seconds = started.elapsed().as_secs();
+        eprintln!("{}; {seconds} s", tally.report());
         Ok(true)
     }
 

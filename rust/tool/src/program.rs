@@ -12,8 +12,8 @@ pub struct Program {
 }
 
 impl Program {
-    /// The program's lines. One that is killed by a signal, takes too long or ends its output without
-    /// LF gives a last line in brackets that says so.
+    /// The program's lines. One that doesn't end well, takes too long or ends its output without LF
+    /// gives a last line in brackets that says so.
     pub fn ask(&self, bytes: &[u8]) -> Result<Vec<String>, String> {
         let mut child = Command::new(&self.path)
             .stdin(Stdio::piped())
@@ -34,7 +34,7 @@ impl Program {
         }
         match status {
             None => lines.push("(the program took too long)".to_string()),
-            Some(status) if status.code().is_none() => lines.push(format!("(ended by {status})")),
+            Some(status) if !status.success() => lines.push(format!("(ended by {status})")),
             Some(_) => {}
         }
         Ok(lines)

@@ -1,0 +1,142 @@
+//! Answering: the proved entries against the original's text, each from the bytes of a file to the
+//! lines of its questions. The Rust is the second loader, the data of a `SemanticIndex` made from its
+//! records, and the original functions on a fresh database for each question (crate `oracle`), with
+//! salsa's store of finished results within a question and without.
+
+use std::hint::black_box;
+
+use index_file::load::load;
+use oracle::{Options, Oracle, answer_bytes};
+
+use crate::answered_files::Asked;
+use crate::library::{self, Buffers};
+use crate::timing::{Contender, medians};
+
+/// As many demands as a question takes: nothing is given up.
+const BUDGET: u64 = u64::MAX;
+
+fn options(memo: bool) -> Options {
+    Options {
+        memo,
+        budget: BUDGET,
+        ..Options::default()
+    }
+}
+
+/// All lines of a file by the proved `answer_from`, and how many calls they took.
+fn proved_lines(file: &[u8], buffers: &mut Buffers) -> Result<(Vec<u8>, usize), String> {
+    let (mut lines, mut from, mut calls) = (Vec::new(), 0, 0);
+    loop {
+        let part = library::answer_from(file, from, buffers);
+        let part = part.map_err(|refusal| refusal.answer_line())?;
+        lines.extend_from_slice(&buffers.out[..part.bytes]);
+        calls += 1;
+        match part.next {
+            Some(next) => from = next,
+            None => return Ok((lines, calls)),
+        }
+    }
+}
+
+/// What both sides print is the same; the number of calls.
+fn compared(file: &Asked) -> Result<usize, String> {
+    let mut buffers = Buffers::new();
+    let (lines, calls) = proved_lines(&file.bytes, &mut buffers)?;
+    for memo in [false, true] {
+        if lines != answer_bytes(&file.bytes, options(memo)) {
+            return Err(format!("{}: other lines than the Rust's", file.name));
+        }
+    }
+    let first = library::answer(&file.bytes, 0, &mut buffers);
+    let first = first.map_err(|refusal| format!("{}: {refusal}", file.name))?;
+    match lines.starts_with(&buffers.out[..first]) {
+        true => Ok(calls),
+        false => Err(format!("{}: another line for one question", file.name)),
+    }
+}
+
+pub fn whole_files(files: &[Asked], rounds: usize) -> Result<(), String> {
+    println!(
+        "| file | bytes | questions | calls | proved | of it loading | Rust, no store | Rust, store \
+         | no store / proved | store / proved |"
+    );
+    println!("|---|---|---|---|---|---|---|---|---|---|");
+    for file in files {
+        let calls = compared(file)?;
+        let [proved, loading, plain, stored] = times(file, rounds);
+        println!(
+            "| {} | {} | {} | {calls} | {:.1} us | {:.1} us | {:.1} us | {:.1} us | {:.1} | {:.1} |",
+            file.name,
+            file.bytes.len(),
+            file.questions(),
+            proved / 1e3,
+            loading * calls as f64 / 1e3,
+            plain / 1e3,
+            stored / 1e3,
+            plain / proved,
+            stored / proved,
+        );
+    }
+    Ok(())
+}
+
+/// Rows of files of which each is twice the one before.
+pub fn growth(rows: &[Vec<Asked>], rounds: usize) -> Result<(), String> {
+    println!(
+        "| file | proved | times the half | Rust, no store | times the half | Rust, store | times the half |"
+    );
+    println!("|---|---|---|---|---|---|---|");
+    for row in rows {
+        let mut half: Option<[f64; 3]> = None;
+        for file in row {
+            compared(file)?;
+            let [proved, _, plain, stored] = times(file, rounds);
+            let now = [proved, plain, stored];
+            let cells = (0..3).map(|at| {
+                let grown =
+                    half.map_or("-".to_string(), |half| format!("{:.1}", now[at] / half[at]));
+                format!(" {:.1} us | {grown} |", now[at] / 1e3)
+            });
+            println!("| {} |{}", file.name, cells.collect::<String>());
+            half = Some(now);
+        }
+    }
+    Ok(())
+}
+
+fn times(file: &Asked, rounds: usize) -> [f64; 4] {
+    let bytes = &file.bytes[..];
+    let mut buffers = Buffers::new();
+    let proved = move || {
+        if file.first_only {
+            let line = library::answer(black_box(bytes), 0, &mut buffers);
+            black_box(line).expect("answered before");
+        } else {
+            let lines = proved_lines(black_box(bytes), &mut buffers);
+            black_box(lines).expect("answered before");
+        }
+    };
+    let mut records = Buffers::new().records;
+    let loading = move || {
+        let verdict = library::load(black_box(bytes), &mut records);
+        black_box(verdict).expect("accepted before");
+    };
+    let rust = |memo| {
+        move || {
+            if file.first_only {
+                let index = load(black_box(bytes)).expect("accepted before");
+                let answer = Oracle::new(&index, options(memo)).answer(&index.questions[0]);
+                black_box(answer.line());
+            } else {
+                black_box(answer_bytes(black_box(bytes), options(memo)));
+            }
+        }
+    };
+    let contenders: [Contender; 4] = [
+        Box::new(proved),
+        Box::new(loading),
+        Box::new(rust(false)),
+        Box::new(rust(true)),
+    ];
+    medians(rounds, contenders)
+}
