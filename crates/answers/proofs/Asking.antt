@@ -5,16 +5,15 @@ use mathlib.Core.List.{List, [], _∷_, _++_, append-nil}
 use mathlib.Core.Option.{some}
 use native.Mathlib.Nat.{zero-add}
 use native.Mathlib.Omega.{arith}
-use lib.ListN.{length, drop, getElem?, replicate, drop-of-length-le}
+use lib.ListN.{length, getElem?, replicate, drop-of-length-le}
 use Rattle.model.specs.Common.{Text}
 use Rattle.model.specs.Records.{Question, Index}
 use Rattle.model.specs.Limits.{max-open-demands}
 use Rattle.format.proofs.Loaded.{loaded-well-formed}
 use Rattle.records.specs.Layout.{index-of, question-row, question-count}
 use Rattle.records.proofs.Lists.{each-at, each-length}
-use Rattle.resolution.specs.Types.{Table, first-table}
 use Rattle.resolution.specs.TypeResolution.{question-program}
-use Rattle.resolution.specs.Run.{Outcome, answered, refused, run, demand, resolve-question}
+use Rattle.resolution.specs.Run.{answered, refused, run, demand, resolve-question}
 use Rattle.resolution.specs.Answer.{type-text, Verdict, text-verdict, outcome-verdict, verdict, question-lead, answer-line}
 use Rattle.resolution.specs.TableOk.{TableOk}
 use Rattle.resolution.proofs.Tables.{first-table-ok}
@@ -23,7 +22,7 @@ use Rattle.type_table.specs.Promises.{Starts, cleared as cleared-types}
 use Rattle.type_table.specs.declared.Resolved.{Resolved}
 use Rattle.demands.specs.Meaning.{open-demands, cleared, cleared-places, zero-place}
 use Rattle.type_resolution.specs.State.{Ready, Runs, typed}
-use Rattle.answers.specs.Steps.{Loaded, AskedIs, StepIs, zero-types, zero-places, TypesHold, TypesKept, TypedAnswered, TypesAre, QuestionAnswered, TypesAfter, After, StepLeaves, Stepped, line-with, RefusedWith}
+use Rattle.answers.specs.Steps.{Loaded, AskedIs, StepIs, zero-types, zero-places, TypesKept, TypedAnswered, TypesAre, QuestionAnswered, TypesAfter, StepLeaves, Stepped, line-with}
 use Rattle.answers.specs.declared.Asked.{Asked}
 use Rattle.answers.specs.declared.Step.{Step}
 

@@ -1,31 +1,27 @@
 -- The public entries: what a loaded or refused file and a question found or lacking give, and the first words of longer buffers. Assumes nothing.
-use Prim.Native.Nat.{ℕ, suc, _+_, _≤_, _<_}
-use mathlib.Core.Path.{_≡_, refl, sym, ap, ap₂, subst, _∙_}
-use mathlib.Core.Bool.{Bool, true, false}
-use mathlib.Core.List.{List, [], _∷_, _++_, append-assoc}
-use mathlib.Core.Option.{Option, none, some}
+use Prim.Native.Nat.{ℕ, _+_, _≤_, _<_}
+use mathlib.Core.Path.{_≡_, refl, sym, ap, subst, _∙_}
+use mathlib.Core.List.{List, [], _++_, append-assoc}
+use mathlib.Core.Option.{none, some}
 use native.Mathlib.Omega.{arith}
 use borrow.Author.Tests.{le-leb, lt-leb}
-use lib.Dec.{leb}
-use lib.ListN.{length, take, drop, getElem?, replicate, length-append, length-take, length-drop, take-append-drop}
+use lib.ListN.{length, take, drop, getElem?, replicate, length-append, length-drop, take-append-drop}
 use lib.Seq.{take-at, drop-at, drop-append-le, take-all, length-take-le}
 use Rattle.model.specs.Common.{Text, if_then_else_, let-some}
 use Rattle.model.specs.Records.{Question, Index}
 use Rattle.model.specs.Limits.{record-words, type-words, max-open-demands, answer-bytes}
 use Rattle.model.specs.Refusals.{refusal-link}
-use Rattle.model.proofs.Tests.{none≢some, some-injective}
-use Rattle.format.specs.Load.{Loading, accepted, refused, load}
+use Rattle.format.specs.Load.{accepted, refused, load}
 use Rattle.records.specs.Layout.{index-of}
-use Rattle.resolution.specs.Answer.{Verdict, verdict, question-lead, verdict-fields, answer-line}
+use Rattle.resolution.specs.Answer.{Verdict, verdict, question-lead, answer-line}
 use Rattle.resolution.specs.Resolve.{Reply, reply-from, ask-loaded, answer}
 use Rattle.resolution.proofs.Secrecy.{question-answered}
 use Rattle.resolution.proofs.LineFits.{line-fits}
-use Rattle.loader.specs.Load.{Filled, loaded-is}
+use Rattle.loader.specs.Load.{Filled}
 use Rattle.loader.specs.declared.Loaded.{Loaded as FileLoaded}
 use Rattle.answers.specs.Meaning.{put-first, answer-of, answer-out, Lines, fill, lines-in, lines-from, answers-of, lines-out}
-use Rattle.answers.specs.Steps.{Long, Exact, Loaded, AskedIs, TypesAre, TypesHold, QuestionAnswered, zero-types, zero-places, LinesLeave, LinesWritten, line-with}
-use Rattle.answers.specs.Promises.{RecordsHold, TypedLeaves, RefusedLeaves, FileRefusedLeaves, Leaves, ExactAnswered, LinesLeft, LeavesFrom, ExactAnsweredFrom, Buffers, LongBuffers, Behind, Answered, AnsweredFrom}
-use Rattle.answers.proofs.Filling.{fill-on, fill-stop, drop-here}
+use Rattle.answers.specs.Steps.{Exact, Loaded, QuestionAnswered, LinesLeave, LinesWritten, line-with}
+use Rattle.answers.specs.Promises.{ExactAnswered, LeavesFrom, ExactAnsweredFrom, Buffers, Behind, Answered, AnsweredFrom}
 use Rattle.answers.specs.declared.Asked.{Asked}
 use Rattle.answers.specs.declared.LineAnswer.{LineAnswer}
 use Rattle.answers.specs.declared.LinesAnswer.{LinesAnswer}

@@ -1,16 +1,13 @@
 -- The lines of many questions: what stands in the bytes and what is left to do before each one. Assumes nothing.
 use Prim.Native.Nat.{ℕ, zero, suc, _+_, _-_, _≤_, _<_}
 use mathlib.Core.Path.{_≡_, refl, sym, ap, ap₂, subst, _∙_}
-use mathlib.Core.Bool.{Bool, true, false}
 use mathlib.Core.List.{List, [], _∷_, _++_, append-assoc, append-nil}
-use mathlib.Core.Option.{Option, none, some}
-use native.Mathlib.Nat.{zero-add}
+use mathlib.Core.Option.{none, some}
 use native.Mathlib.Numerals.{add-one}
 use native.Mathlib.Omega.{arith}
 use borrow.Author.Tests.{le-leb, lt-leb}
 use borrow.Rule.Slice.PartMut.{midOf, postOf, putMid, put-same}
-use lib.Dec.{leb}
-use lib.ListN.{length, take, drop, getElem?, length-append, length-take, length-drop, drop-of-length-le, take-append-drop}
+use lib.ListN.{length, take, drop, getElem?, length-append, length-drop, drop-of-length-le}
 use lib.Seq.{take-at, drop-at, drop-drop, take-all}
 use Rattle.model.specs.Common.{Text, if_then_else_}
 use Rattle.model.specs.Records.{Question, Index}
@@ -18,7 +15,7 @@ use Rattle.model.specs.Limits.{answer-bytes}
 use Rattle.model.proofs.Tests.{none≢some, some-injective}
 use Rattle.resolution.specs.Answer.{answer-line}
 use Rattle.answers.specs.Meaning.{put-first, Lines, fill, answers-of, lines-out}
-use Rattle.answers.specs.Steps.{LinePut, NotPut, After, AfterLast, StepIs, StepLeaves, Stepped, zero-types, zero-places, LinesLeave, LinesWritten}
+use Rattle.answers.specs.Steps.{After, AfterLast, Stepped, LinesWritten}
 use Rattle.answers.specs.declared.Step.{Step}
 use Rattle.answers.specs.declared.LinesAnswer.{LinesAnswer}
 

@@ -1,13 +1,13 @@
 -- Lines written into a lent buffer: a text between the lead fields and the LF, and what stands at the start of the bytes. Assumes nothing.
-use Prim.Native.Nat.{ℕ, _+_, _-_, _≤_, _<_, _^_, zero-le}
-use mathlib.Core.Path.{_≡_, refl, sym, ap, ap₂, subst, _∙_}
-use mathlib.Core.List.{List, [], _∷_, _++_, append-assoc, append-nil}
+use Prim.Native.Nat.{ℕ, _+_, _-_, _≤_, _<_, zero-le}
+use mathlib.Core.Path.{_≡_, refl, sym, ap, ap₂, _∙_}
+use mathlib.Core.List.{_++_, append-assoc}
 use native.Mathlib.Nat.{zero-add, lt-trans}
 use native.Mathlib.Omega.{arith}
 use borrow.Rule.Slice.PartMut.{midOf, postOf, putMid}
 use lib.Dec.{lit<}
-use lib.ListN.{length, take, drop, length-append, length-take, length-drop, take-append-drop, drop-of-length-le}
-use lib.Seq.{length-take-le, drop-at, drop-append-le, drop-drop, take-at, take-all}
+use lib.ListN.{length, take, drop, length-append, length-take, take-append-drop}
+use lib.Seq.{length-take-le, drop-at, drop-append-le, drop-drop}
 use Rattle.model.specs.Common.{Text, bytes}
 use Rattle.resolution.specs.Answer.{decimal, Verdict, verdict-fields}
 use Rattle.type_text.specs.Text.{put-at, Wrote}

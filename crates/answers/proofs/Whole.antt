@@ -3,12 +3,10 @@ use Prim.Native.Nat.{ℕ, zero, suc, _+_, _-_, _≤_, _<_}
 use mathlib.Core.Path.{_≡_, refl, sym, ap, ap₂, subst, _∙_}
 use mathlib.Core.Bool.{Bool, true, false}
 use mathlib.Core.List.{List, [], _∷_, _++_, append-assoc, append-nil}
-use mathlib.Core.Option.{Option, none, some}
-use native.Mathlib.Nat.{le-refl}
 use native.Mathlib.Omega.{arith}
 use borrow.Author.Tests.{le-leb, leb-true}
 use lib.Dec.{leb}
-use lib.ListN.{length, take, drop, getElem?, length-append, length-take, length-drop}
+use lib.ListN.{length, take, drop, getElem?, length-drop}
 use lib.Seq.{take-at, take-all, take-add, drop-drop}
 use Rattle.model.specs.Common.{Text, if_then_else_}
 use Rattle.model.specs.Records.{Question, Index}
@@ -21,8 +19,7 @@ use Rattle.resolution.specs.Resolve.{Reply, reply-from, answer, refusal-line, p
 use Rattle.resolution.proofs.LineFits.{line-fits}
 use Rattle.resolution.proofs.Secrecy.{question-answered, bodies-are-hidden}
 use Rattle.answers.specs.Meaning.{put-first, answer-of, answer-out, Lines, fill, lines-in, lines-from, answers-of, lines-out}
-use Rattle.answers.specs.Promises.{Buffers, Answered, AnsweredFrom}
-use Rattle.answers.specs.Whole.{LineOr, AnswersTheLine, lines-between, LinesOf, AnswersTheLines, Calls, CallsResolve, SameAnswer, AnswersHideBodies, AnswersDemandThree}
+use Rattle.answers.specs.Whole.{LineOr, AnswersTheLine, lines-between, LinesOf, AnswersTheLines, Calls, CallsResolve, AnswersHideBodies, AnswersDemandThree}
 use Rattle.answers.specs.declared.LineAnswer.{LineAnswer}
 use Rattle.answers.specs.declared.LinesAnswer.{LinesAnswer}
 use Rattle.answers.proofs.Filling.{drop-here, fill-on}

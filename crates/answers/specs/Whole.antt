@@ -2,7 +2,7 @@
 -- Statements only; they are proved in proofs/Whole.antt. Assumes nothing.
 use Prim.Native.Nat.{ℕ, _-_, _≤_, _<_}
 use mathlib.Core.Path.{_≡_}
-use mathlib.Core.List.{List, _++_}
+use mathlib.Core.List.{_++_}
 use mathlib.Core.Option.{some}
 use lib.ListN.{length, take, drop, getElem?}
 use Rattle.model.specs.Common.{Text}

@@ -6,8 +6,8 @@ use records::Question;
 use type_table::Resolved;
 use type_text::TypeText;
 ghost use mathlib.Core.Path.{_≡_};
-ghost use Prim.Native.Nat.{ℕ, _+_, _≤_, _<_};
-ghost use mathlib.Core.List.{List, _++_};
+ghost use Prim.Native.Nat.{_+_, _≤_, _<_};
+ghost use mathlib.Core.List.{_++_};
 ghost use lib.ListN.{length};
 ghost use Rattle.model.specs.Common.{bytes};
 ghost use Rattle.records.specs.Layout.{index-of};
@@ -72,6 +72,7 @@ fn put_fields(kind: &[u8], m: u32, n: u32, out: &mut [u8]) -> usize
     type_text::put(out, fourth, b"\t")
 }
 
+// The lead fields of a question, by its kind.
 fn put_lead(question: Question, out: &mut [u8]) -> usize
     requires { ⌜ 64 ≤ length (now out) ⌝ }
     ensures { λ r. ⌜ LeadPut (question-lead (question-of question)) (now (out .entry)) (now (out .exit)) r ⌝ }
@@ -83,7 +84,9 @@ fn put_lead(question: Question, out: &mut [u8]) -> usize
     }
 }
 
-// Writes the line of a type: the text straight behind the place of the lead fields, and these before it once the text stands.
+// Writes the line of a type. The text goes straight behind the four lead fields, into the rest of the buffer lent from its middle; it is
+// measured before anything is written, and the lead fields and the LF come once it stands, so that a line without room and refusal 10
+// leave the buffer as it is.
 fn write_typed(file: &[u8], types: &[u32], t: u32, question: Question, out: &mut [u8]) -> Asked
     requires { ⌜ Sound (now file) (now types) ⌝ }
     requires { ⌜ TableOk (table-of (now file) (now types)) ⌝ }
@@ -243,6 +246,7 @@ fn are_long(records: usize, types: usize, places: usize, bytes: usize) -> bool
     true
 }
 
+// The question of a number, of a loaded file. A file that lacks it is refused with 5, and its words are zero.
 fn answer_loaded(
     file: &[u8],
     number: u32,
@@ -276,6 +280,7 @@ fn answer_loaded(
     }
 }
 
+// The same of a file that is still to be loaded.
 fn answer_exact(
     file: &[u8],
     number: u32,
@@ -294,7 +299,7 @@ fn answer_exact(
     }
 }
 
-// Loads a file and answers the question of a number.
+// Loads a file and answers the question of a number. What each buffer holds behind it: `Answered` and `ShortAnswer` of specs/Promises.antt.
 pub fn answer(
     file: &[u8],
     number: u32,
@@ -321,6 +326,7 @@ pub fn answer(
     )
 }
 
+// The lines of a file that is still to be loaded.
 fn lines_exact(
     file: &[u8],
     from: u32,
@@ -346,6 +352,7 @@ fn lines_exact(
 }
 
 // Loads a file and answers its questions from a number on: as many as have lines that fit into 4,160 bytes, and at least one if there is one.
+// `More` leaves the type words zero, since the next question was resolved before its line was seen to have no room: see `AnsweredFrom`.
 pub fn answer_from(
     file: &[u8],
     from: u32,

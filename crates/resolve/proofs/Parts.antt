@@ -1,13 +1,12 @@
 -- What one call of `answer_from` gives to print. Assumes nothing.
-use Prim.Native.Nat.{ℕ, _≤_, _<_, zero-le}
+use Prim.Native.Nat.{ℕ, _≤_}
 use mathlib.Core.Path.{_≡_, refl, sym, ap, subst, _∙_}
-use mathlib.Core.List.{List, _++_}
+use mathlib.Core.List.{_++_}
 use native.Mathlib.Omega.{arith}
 use lib.ListN.{length, take, drop, length-append}
 use lib.Seq.{take-at}
 use Rattle.model.specs.Common.{Text}
 use Rattle.resolution.specs.Resolve.{refusal-line}
-use Rattle.type_text.specs.Text.{Wrote}
 use Rattle.type_text.proofs.Writing.{wrote-take}
 use Rattle.answers.specs.Meaning.{put-first, Lines, lines-from, answers-of, lines-out}
 use Rattle.answers.specs.Promises.{Buffers, AnsweredFrom}

@@ -1,7 +1,6 @@
 -- What `resolve` prints at a time: the lines of one call of `answer_from`, or the line of a refused file. Definitions only; assumes nothing.
 use Prim.Native.Nat.{ℕ, _≤_, _<_}
-use mathlib.Core.Path.{_≡_}
-use mathlib.Core.List.{List, _++_}
+use mathlib.Core.List.{_++_}
 use lib.ListN.{length, take}
 use Rattle.model.specs.Common.{Text}
 use Rattle.type_text.specs.Text.{Wrote}

@@ -1,6 +1,6 @@
 -- `answers::answer_lines` meets its contract: before each question the lines so far stand at the start, and what is to be filled is the same. Assumes nothing.
 use Prim.Native.Nat.{_-_}
-use mathlib.Core.Path.{sym, subst, _∙_}
+use mathlib.Core.Path.{subst, _∙_}
 use native.Mathlib.Omega.{arith}
 use borrow.Rule.Slice.PartMut.{midOf, same-len-mid}
 use lib.ListN.{length}

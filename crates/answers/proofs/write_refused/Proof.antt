@@ -1,6 +1,6 @@
 -- `answers::write_refused` meets its contract: its parts one behind the other, and then all of it where there is room. Assumes nothing.
 use Prim.Native.Nat.{zero-le, _<_}
-use mathlib.Core.Path.{_≡_, refl, sym, ap, subst, _∙_}
+use mathlib.Core.Path.{_≡_, refl, sym, subst, _∙_}
 use mathlib.Core.List.{_++_}
 use native.Mathlib.Nat.{zero-add}
 use native.Mathlib.Omega.{arith}
@@ -8,10 +8,10 @@ use lib.ListN.{length, take, length-take}
 use lib.Seq.{length-take-le}
 use Rattle.model.specs.Common.{bytes}
 use Rattle.records.specs.Meaning.{question-of}
-use Rattle.resolution.specs.Answer.{decimal, Verdict, question-lead}
+use Rattle.resolution.specs.Answer.{decimal, question-lead}
 use Rattle.type_text.specs.Text.{Wrote}
 use Rattle.type_text.proofs.Writing.{wrote-then, wrote-take}
-use Rattle.answers.specs.Steps.{LinePut, line-with}
+use Rattle.answers.specs.Steps.{LinePut}
 use Rattle.answers.proofs.Lines.{ten-digits, line-put, refused-line}
 use borrow.Author.Needs.{needs}
 use Rattle.answers.proofs.write_refused.Statement.{statement}

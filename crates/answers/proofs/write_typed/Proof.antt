@@ -4,12 +4,12 @@ use mathlib.Core.Path.{_≡_, refl, sym, ap, subst, _∙_}
 use mathlib.Core.List.{_++_}
 use native.Mathlib.Nat.{zero-add}
 use native.Mathlib.Omega.{arith}
-use borrow.Rule.Slice.PartMut.{midOf, put-same, putMid}
+use borrow.Rule.Slice.PartMut.{put-same, putMid}
 use lib.ListN.{length, take, drop, length-append, length-take, length-drop}
 use lib.Seq.{length-take-le}
 use Rattle.model.specs.Common.{bytes}
 use Rattle.records.specs.Meaning.{question-of}
-use Rattle.resolution.specs.Answer.{type-text, Verdict, text-verdict, question-lead}
+use Rattle.resolution.specs.Answer.{type-text, text-verdict, question-lead}
 use Rattle.type_table.specs.Layout.{table-of}
 use Rattle.type_text.specs.Text.{Wrote}
 use Rattle.type_text.proofs.Writing.{wrote-then, wrote-take}

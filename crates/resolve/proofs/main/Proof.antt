@@ -1,9 +1,9 @@
 -- `resolve::main` meets its contract: the buffers stay as long as they are, and each part begins at a later question. Assumes nothing.
-use Prim.Native.Nat.{_-_, _≤_}
+use Prim.Native.Nat.{_-_}
 use mathlib.Core.Path.{_≡_, sym, subst, _∙_}
 use native.Mathlib.Omega.{arith}
 use borrow.Author.Needs.{needs}
-use lib.ListN.{length, take, length-take}
+use lib.ListN.{length, take}
 use lib.Seq.{length-take-le}
 use Rattle.resolve.specs.Parts.{PartIs}
 use Rattle.resolve.proofs.main.Statement.{statement}

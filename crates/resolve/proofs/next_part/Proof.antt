@@ -1,5 +1,5 @@
 -- `resolve::next_part` meets its contract: by what the call gives. Assumes nothing.
-use mathlib.Core.Path.{subst, _∙_}
+use mathlib.Core.Path.{subst}
 use native.Mathlib.Omega.{arith}
 use Rattle.answers.specs.Promises.{buffers, AnsweredFrom}
 use Rattle.resolve.proofs.Parts.{more-part, end-part, refused-part}
