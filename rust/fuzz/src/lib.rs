@@ -1,0 +1,294 @@
+//! One input through the static library, and all that is known of it compared: the verdict and the
+//! record words with the Rust loader's, the answers with the oracle's where the original sources are
+//! reachable, one way of asking with the other, and every buffer with what it has to hold. The first
+//! difference panics; a step over the end of a buffer ends the process.
+
+#[cfg(feature = "libfuzzer")]
+mod gentle;
+mod guarded;
+#[cfg(feature = "libfuzzer")]
+mod libfuzzer;
+
+use std::fmt;
+
+use guarded::Guarded;
+use index_file::load::{Refusal, load};
+use index_file::records::Index;
+use index_file::words::{WORDS, with_plain_empty_lists, words};
+use roognaps::AnswerLine;
+use roognaps::raw::{self, ANSWER_BYTES, Entry, PLACES, Place, RECORD_WORDS, TYPE_WORDS};
+
+/// What the buffers hold before a call.
+const WORD: u32 = 0xA5A5_A5A5;
+const BYTE: u8 = 0xA5;
+
+/// Files are at most this long; longer ones are cut.
+const MOST_BYTES: usize = 1 << 20;
+
+/// Questions of a file that are also asked one by one.
+const ONE_BY_ONE: usize = 16;
+
+/// Demands of one question, above which the oracle gives up and the file is passed over: an answer
+/// may take very long (docs/DIFFERENCES.md, 3).
+#[cfg(originals)]
+const BUDGET: u64 = 20_000;
+
+/// How many inputs came to which end.
+#[derive(Debug, Clone, Copy, Default)]
+pub struct Counts {
+    pub inputs: u64,
+    pub accepted: u64,
+    /// Refused by 2 to 5.
+    pub refused: [u64; 4],
+    /// Accepted files whose answers weren't asked for.
+    pub passed_over: u64,
+    pub types: u64,
+    /// Questions refused by 6 to 10.
+    pub questions_refused: [u64; 5],
+}
+
+impl fmt::Display for Counts {
+    fn fmt(&self, f: &mut fmt::Formatter<'_>) -> fmt::Result {
+        let [two, three, four, five] = self.refused;
+        let [six, seven, eight, nine, ten] = self.questions_refused;
+        write!(
+            f,
+            "{} inputs: {} accepted ({} passed over), refused by 2: {two}, 3: {three}, 4: {four}, \
+             5: {five}; answers: {} types, 6: {six}, 7: {seven}, 8: {eight}, 9: {nine}, 10: {ten}",
+            self.inputs, self.accepted, self.passed_over, self.types
+        )
+    }
+}
+
+/// The buffers, each with a guarded page behind it, and the counts.
+pub struct Target {
+    file: Guarded<u8>,
+    records: Guarded<u32>,
+    types: Guarded<u32>,
+    places: Guarded<Place>,
+    out: Guarded<u8>,
+    pub counts: Counts,
+}
+
+impl Default for Target {
+    fn default() -> Self {
+        Self {
+            file: Guarded::new(MOST_BYTES),
+            records: Guarded::new(RECORD_WORDS),
+            types: Guarded::new(TYPE_WORDS),
+            places: Guarded::new(PLACES),
+            out: Guarded::new(ANSWER_BYTES),
+            counts: Counts::default(),
+        }
+    }
+}
+
+/// What the oracle prints for an accepted file; none if it gives up a question.
+#[cfg(originals)]
+fn owed_lines(index: &Index) -> Option<Vec<String>> {
+    let options = oracle::Options {
+        budget: BUDGET,
+        ..oracle::Options::default()
+    };
+    let answers = oracle::Oracle::new(index, options).answers();
+    let lines: Vec<String> = answers.iter().map(oracle::Answer::line).collect();
+    (!oracle::gives_up(&lines)).then_some(lines)
+}
+
+/// Without the originals only the beginning of each line is known.
+#[cfg(not(originals))]
+fn owed_lines(index: &Index) -> Option<Vec<String>> {
+    let leads = index.questions.iter().map(|question| {
+        let (kind, module, number) = question.lead();
+        format!("{kind}\t{module}\t{number}\t")
+    });
+    Some(leads.collect())
+}
+
+fn is_as_owed(line: &str, owed: &str) -> bool {
+    match cfg!(originals) {
+        true => line == owed,
+        false => line.starts_with(owed),
+    }
+}
+
+impl Target {
+    /// One input, with everything compared.
+    pub fn one_input(&mut self, file: &[u8]) {
+        let file = &file[..file.len().min(MOST_BYTES)];
+        self.file.last(file.len()).copy_from_slice(file);
+        let length = file.len();
+        self.counts.inputs += 1;
+        let expected = load(file);
+        self.loading(length, file, &expected);
+        match expected {
+            Err(refusal) => {
+                self.counts.refused[usize::from(refusal.number) - 2] += 1;
+                self.refused_file(length, refusal);
+            }
+            Ok(index) => {
+                self.counts.accepted += 1;
+                match owed_lines(&index) {
+                    Some(owed) => self.accepted_file(length, &index, &owed),
+                    None => self.counts.passed_over += 1,
+                }
+            }
+        }
+    }
+
+    fn fill(&mut self) {
+        self.records.all().fill(WORD);
+        self.types.all().fill(WORD);
+        self.places.all().fill([WORD; 5]);
+        self.out.all().fill(BYTE);
+    }
+
+    fn loading(&mut self, length: usize, file: &[u8], expected: &Result<Index, Refusal>) {
+        let lent = self.file.last(length);
+        let records = self.records.all();
+        records.fill(0);
+        // SAFETY: slices with their lengths, which don't overlap.
+        let loaded = |records: &mut [u32]| unsafe {
+            raw::roognaps_load(
+                lent.as_ptr(),
+                lent.len(),
+                records.as_mut_ptr(),
+                records.len(),
+            )
+        };
+        let verdict = loaded(records);
+        match expected {
+            Ok(index) => {
+                assert_eq!(verdict, 0, "loading");
+                let owed = with_plain_empty_lists(&words(file, index));
+                assert_eq!(with_plain_empty_lists(records), owed, "record words");
+            }
+            Err(refusal) => {
+                assert_eq!(verdict, packed(*refusal), "loading");
+                assert!(records.iter().all(|word| *word == 0), "records");
+                records.fill(WORD);
+                assert_eq!(loaded(records), verdict, "loading again");
+                assert!(records.iter().all(|word| *word == 0), "records");
+            }
+        }
+        records.fill(WORD);
+        assert_eq!(loaded(&mut records[1..]), 1 << 32, "a short buffer");
+        assert!(records.iter().all(|word| *word == WORD), "records");
+        assert_eq!(WORDS, RECORD_WORDS);
+    }
+
+    fn call(&mut self, entry: Entry, length: usize, number: u32) -> u64 {
+        let file = self.file.last(length);
+        let (records, types) = (self.records.all(), self.types.all());
+        let (places, out) = (self.places.all(), self.out.all());
+        // SAFETY: slices with their lengths, none of which overlaps another.
+        unsafe {
+            entry(
+                file.as_ptr(),
+                file.len(),
+                number,
+                records.as_mut_ptr(),
+                records.len(),
+                types.as_mut_ptr(),
+                types.len(),
+                places.as_mut_ptr(),
+                places.len(),
+                out.as_mut_ptr(),
+                out.len(),
+            )
+        }
+    }
+
+    fn assert_zero_records_and_the_rest_as_it_was(&mut self) {
+        assert!(self.records.all().iter().all(|word| *word == 0), "records");
+        assert!(self.types.all().iter().all(|word| *word == WORD), "types");
+        let places = self.places.all();
+        assert!(places.iter().all(|place| *place == [WORD; 5]), "places");
+        assert!(self.out.all().iter().all(|byte| *byte == BYTE), "out");
+    }
+
+    fn refused_file(&mut self, length: usize, refusal: Refusal) {
+        self.fill();
+        let given = self.call(raw::roognaps_answer, length, 0);
+        assert_eq!(given, packed(refusal), "answer");
+        self.assert_zero_records_and_the_rest_as_it_was();
+        self.fill();
+        let given = self.call(raw::roognaps_answer_from, length, 0);
+        assert_eq!(given, (1 << 63) + packed(refusal), "answer_from");
+        self.assert_zero_records_and_the_rest_as_it_was();
+    }
+
+    fn accepted_file(&mut self, length: usize, index: &Index, owed: &[String]) {
+        let count = index.questions.len();
+        let lines = self.all_lines(length, count);
+        assert_eq!(lines.len(), count, "lines");
+        for (line, owed) in lines.iter().zip(owed) {
+            assert!(is_as_owed(line, owed), "{line:?} instead of {owed:?}");
+            let read: AnswerLine = line.parse().expect("an answer line");
+            assert_eq!(read.to_string(), *line);
+            match read.result {
+                Ok(_) => self.counts.types += 1,
+                Err(refusal) => {
+                    self.counts.questions_refused[refusal.number() as usize - 6] += 1;
+                }
+            }
+        }
+        let step = count.div_ceil(ONE_BY_ONE).max(1);
+        for number in (0..count).step_by(step) {
+            self.one_question(length, number, &lines[number]);
+        }
+        self.fill();
+        let lacking = self.call(raw::roognaps_answer, length, count as u32);
+        assert_eq!(lacking, 5 << 32, "a question that isn't there");
+        self.assert_zero_records_and_the_rest_as_it_was();
+    }
+
+    /// The lines as `answer_from` gives them, call by call.
+    fn all_lines(&mut self, length: usize, count: usize) -> Vec<String> {
+        let mut lines = Vec::new();
+        loop {
+            self.fill();
+            let given = self.call(raw::roognaps_answer_from, length, lines.len() as u32);
+            let (next, bytes) = ((given >> 32) as usize, given as u32 as usize);
+            assert_eq!(given >> 63, 0, "answer_from refuses");
+            let (text, behind) = self.out.all().split_at(bytes);
+            let text = std::str::from_utf8(text).expect("text");
+            assert!(text.is_empty() || text.ends_with('\n'), "a last line");
+            assert!(behind.iter().all(|byte| *byte == BYTE), "behind the lines");
+            let before = lines.len();
+            lines.extend(text.lines().map(str::to_string));
+            if before < count {
+                let places = self.places.all();
+                assert!(places.iter().all(|place| *place == [0; 5]), "places");
+                assert!(lines.len() > before, "no line");
+            }
+            match next {
+                0 => return lines,
+                _ => assert_eq!(next, lines.len(), "the next question"),
+            }
+        }
+    }
+
+    fn one_question(&mut self, length: usize, number: usize, line: &str) {
+        self.fill();
+        let given = self.call(raw::roognaps_answer, length, number as u32);
+        let bytes = given as u32 as usize;
+        let (text, behind) = self.out.all().split_at(bytes);
+        assert!(behind.iter().all(|byte| *byte == BYTE), "behind the line");
+        match given >> 32 {
+            0 => assert_eq!(text, format!("{line}\n").as_bytes(), "answer"),
+            refusal => {
+                assert_eq!(bytes, 0, "a question's refusal has no line");
+                let end = format!("\trefused\t{refusal}");
+                assert!(line.ends_with(&end), "{refusal} instead of {line:?}");
+                assert!(self.types.all().iter().all(|word| *word == 0), "types");
+            }
+        }
+        let places = self.places.all();
+        assert!(places.iter().all(|place| *place == [0; 5]), "places");
+    }
+}
+
+fn packed(refusal: Refusal) -> u64 {
+    (u64::from(refusal.number) << 32) + refusal.line as u64
+}

@@ -1,0 +1,109 @@
+//! Prints the type of each definition of Cairo-M sources.
+//!
+//!     cargo run --offline -p roognaps --features export --example types -- [MODULE=]FILE.cm...
+//!
+//! Each file is a module, named by its stem if not said otherwise; `main.cm` first is usual. This goes
+//! through the original parser and index builder, so it needs the original sources.
+
+#[cfg(not(originals))]
+fn main() -> std::process::ExitCode {
+    eprintln!("types: the original Cairo-M sources aren't reachable; see rust/README.md");
+    std::process::ExitCode::from(2)
+}
+
+#[cfg(originals)]
+fn main() -> std::process::ExitCode {
+    match with_originals::run() {
+        Ok(()) => std::process::ExitCode::SUCCESS,
+        Err(message) => {
+            eprintln!("{message}");
+            std::process::ExitCode::from(2)
+        }
+    }
+}
+
+#[cfg(originals)]
+mod with_originals {
+    use std::io::Write;
+    use std::path::Path;
+
+    use index_file::records::Index;
+    use roognaps::export::Source;
+    use roognaps::{Question, Resolver, Type};
+
+    pub fn run() -> Result<(), String> {
+        let words: Vec<String> = std::env::args().skip(1).collect();
+        if words.is_empty() {
+            return Err("usage: types [MODULE=]FILE.cm...".to_string());
+        }
+        let sources: Result<Vec<Source>, String> = words.iter().map(|word| source(word)).collect();
+        let sources = sources?;
+        let mut resolver = Resolver::new();
+        let (index, lines) = resolver
+            .ask_sources(&sources)
+            .map_err(|error| error.to_string())?;
+        let mut printed = String::new();
+        for line in lines {
+            let Question::Definition { module, definition } = line.question else {
+                continue;
+            };
+            let (module, definition) = (module as usize, definition as usize);
+            let definition = &index.modules[module].definitions[definition];
+            let place = place(&sources[module], definition.name_span.0 as usize);
+            let said = match line.result {
+                Ok(ty) => named(&index, &ty),
+                Err(refusal) => refusal.to_string(),
+            };
+            printed.push_str(&format!("{place} {}: {said}\n", definition.name));
+        }
+        // Who reads may stop early.
+        let _ = std::io::stdout().write_all(printed.as_bytes());
+        Ok(())
+    }
+
+    /// The source that `[MODULE=]FILE` names.
+    fn source(word: &str) -> Result<Source, String> {
+        let (module, path) = match word.split_once('=') {
+            Some((module, path)) => (module.to_string(), path),
+            None => {
+                let stem = Path::new(word).file_stem().unwrap_or_default();
+                (stem.to_string_lossy().to_string(), word)
+            }
+        };
+        let text = std::fs::read_to_string(path).map_err(|error| format!("{path}: {error}"))?;
+        Ok(Source {
+            module,
+            path: path.to_string(),
+            text,
+        })
+    }
+
+    /// Path, line and column.
+    fn place(source: &Source, at: usize) -> String {
+        let before = &source.text.as_bytes()[..at.min(source.text.len())];
+        let line = before.iter().filter(|byte| **byte == b'\n').count() + 1;
+        let start = before.iter().rposition(|byte| *byte == b'\n');
+        let column = before.len() - start.map_or(0, |at| at + 1) + 1;
+        format!("{}:{line}:{column}", source.path)
+    }
+
+    /// The type with the names of its structs and functions.
+    fn named(index: &Index, ty: &Type) -> String {
+        let name = |module: u32, definition: u32| {
+            let module = &index.modules[module as usize];
+            let definition = &module.definitions[definition as usize];
+            format!("{}.{}", module.name, definition.name)
+        };
+        match ty {
+            Type::Struct { module, definition } => format!("struct {}", name(*module, *definition)),
+            Type::Function { module, definition } => format!("fn {}", name(*module, *definition)),
+            Type::Tuple(elements) => {
+                let elements: Vec<String> = elements.iter().map(|ty| named(index, ty)).collect();
+                format!("({})", elements.join(", "))
+            }
+            Type::Pointer(element) => format!("ptr({})", named(index, element)),
+            Type::FixedArray { element, size } => format!("[{}; {size}]", named(index, element)),
+            _ => ty.to_string(),
+        }
+    }
+}

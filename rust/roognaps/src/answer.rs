@@ -1,0 +1,209 @@
+//! Answer lines.
+
+use std::fmt;
+use std::str::FromStr;
+
+use crate::{LibraryFault, Refusal, Type};
+
+/// What a question asks about, as an answer line names it: a kind of record, its module in the file
+/// and its number in the module.
+#[derive(Debug, Clone, Copy, PartialEq, Eq, Hash)]
+pub enum Question {
+    /// `expr`: the type of an expression, an E line.
+    Expression {
+        /// The number of the module in the file.
+        module: u32,
+        /// The number of the E line in the module.
+        expression: u32,
+    },
+    /// `def`: the type of a definition, a D line.
+    Definition {
+        /// The number of the module in the file.
+        module: u32,
+        /// The number of the D line in the module.
+        definition: u32,
+    },
+    /// `type`: what a type expression, a T line, stands for.
+    TypeExpression {
+        /// The number of the module in the file.
+        module: u32,
+        /// The number of the T line in the module.
+        type_expression: u32,
+    },
+}
+
+impl Question {
+    /// The number of the module in the file.
+    pub fn module(self) -> u32 {
+        match self {
+            Self::Expression { module, .. }
+            | Self::Definition { module, .. }
+            | Self::TypeExpression { module, .. } => module,
+        }
+    }
+
+    /// The number of the record in its module.
+    pub fn number(self) -> u32 {
+        match self {
+            Self::Expression { expression, .. } => expression,
+            Self::Definition { definition, .. } => definition,
+            Self::TypeExpression {
+                type_expression, ..
+            } => type_expression,
+        }
+    }
+
+    fn read(kind: &str, module: u32, number: u32) -> Option<Self> {
+        Some(match kind {
+            "expr" => Self::Expression {
+                module,
+                expression: number,
+            },
+            "def" => Self::Definition {
+                module,
+                definition: number,
+            },
+            "type" => Self::TypeExpression {
+                module,
+                type_expression: number,
+            },
+            _ => return None,
+        })
+    }
+}
+
+/// The three fields that lead an answer line, parted by tabs.
+impl fmt::Display for Question {
+    fn fmt(&self, f: &mut fmt::Formatter<'_>) -> fmt::Result {
+        let kind = match self {
+            Self::Expression { .. } => "expr",
+            Self::Definition { .. } => "def",
+            Self::TypeExpression { .. } => "type",
+        };
+        write!(f, "{kind}\t{}\t{}", self.module(), self.number())
+    }
+}
+
+/// A question that has a type.
+#[derive(Debug, Clone, PartialEq, Eq, Hash)]
+pub struct Answer {
+    /// What was asked.
+    pub question: Question,
+    /// The type.
+    pub ty: Type,
+}
+
+/// The line that `resolve` prints, without its LF.
+impl fmt::Display for Answer {
+    fn fmt(&self, f: &mut fmt::Formatter<'_>) -> fmt::Result {
+        write!(f, "{}\ttype\t{}", self.question, self.ty)
+    }
+}
+
+/// What became of one of many questions: its type, or refusal 6 to 10.
+#[derive(Debug, Clone, PartialEq, Eq, Hash)]
+pub struct AnswerLine {
+    /// What was asked.
+    pub question: Question,
+    /// The type, or why there is none.
+    pub result: Result<Type, Refusal>,
+}
+
+/// The line that `resolve` prints, without its LF.
+impl fmt::Display for AnswerLine {
+    fn fmt(&self, f: &mut fmt::Formatter<'_>) -> fmt::Result {
+        match &self.result {
+            Ok(ty) => write!(f, "{}\ttype\t{ty}", self.question),
+            Err(refusal) => write!(f, "{}\trefused\t{}", self.question, refusal.number()),
+        }
+    }
+}
+
+impl From<Answer> for AnswerLine {
+    fn from(answer: Answer) -> Self {
+        Self {
+            question: answer.question,
+            result: Ok(answer.ty),
+        }
+    }
+}
+
+/// Reads exactly what `Display` writes.
+impl FromStr for AnswerLine {
+    type Err = LibraryFault;
+
+    fn from_str(line: &str) -> Result<Self, LibraryFault> {
+        let read = read_line(line);
+        let fault = || LibraryFault::new(format!("{line:?} is no answer line"));
+        let read = read.ok_or_else(fault)?;
+        // Numbers with leading zeros or signs, which `parse` takes.
+        if read.to_string() != line {
+            return Err(fault());
+        }
+        Ok(read)
+    }
+}
+
+fn read_line(line: &str) -> Option<AnswerLine> {
+    let mut fields = line.splitn(5, '\t');
+    let kind = fields.next()?;
+    let module = fields.next()?.parse().ok()?;
+    let number = fields.next()?.parse().ok()?;
+    let question = Question::read(kind, module, number)?;
+    let word = fields.next()?;
+    let rest = fields.next()?;
+    let result = match word {
+        "type" => Ok(rest.parse().ok()?),
+        "refused" => {
+            let refusal = Refusal::from_number(rest.parse().ok()?, 0)?;
+            if refusal.is_of_file() {
+                return None;
+            }
+            Err(refusal)
+        }
+        _ => return None,
+    };
+    Some(AnswerLine { question, result })
+}
+
+#[cfg(test)]
+mod tests {
+    use super::*;
+
+    #[test]
+    fn lines_are_read_and_written() {
+        let lines = [
+            "expr\t0\t2\ttype\tu32",
+            "def\t7\t255\ttype\t(felt,struct:0.1)",
+            "type\t0\t0\trefused\t9",
+            "expr\t65535\t65535\trefused\t10",
+        ];
+        for line in lines {
+            let read: AnswerLine = line.parse().expect(line);
+            assert_eq!(read.to_string(), line);
+        }
+    }
+
+    #[test]
+    fn other_lines_are_errors() {
+        let lines = [
+            "",
+            "refused\t4\t1",
+            "expr",
+            "expr\t0\t0\ttype",
+            "expr\t0\t0\ttype\t",
+            "expr\t0\t0\ttype\tfelt\n",
+            "expr\t0\t0\ttype\tfelt\t",
+            "expr\t00\t0\ttype\tfelt",
+            "expr\t+0\t0\ttype\tfelt",
+            "expr\t0\t4294967296\ttype\tfelt",
+            "expr\t0\t0\trefused\t5",
+            "expr\t0\t0\trefused\t11",
+            "expr\t0\t0\tbudget\t1",
+            "Expr\t0\t0\ttype\tfelt",
+        ];
+        for line in lines {
+            assert!(line.parse::<AnswerLine>().is_err(), "{line:?}");
+        }
+    }
+}

@@ -1,0 +1,76 @@
+//! The functions of the static library as they are, for callers with buffers of their own. What
+//! each promises stands in `include/roognaps.h`; [`Resolver`](crate::Resolver) is the safe way.
+//!
+//! A slice is a pointer and a length. Lengths may be anything, also too short: then the answer is
+//! refusal 1 and nothing is touched. The pointers must be valid for their lengths, and no two buffers
+//! may overlap. An answering call takes up to [`DEEPEST_BYTES`](crate::DEEPEST_BYTES) of stack.
+
+/// Words of 32 bits in a record buffer.
+pub const RECORD_WORDS: usize = 16_384;
+/// Words of 32 bits in a type buffer.
+pub const TYPE_WORDS: usize = 8_192;
+/// Places in a list of open demands.
+pub const PLACES: usize = 256;
+/// Bytes in an answer buffer.
+pub const ANSWER_BYTES: usize = 4_160;
+
+/// A place of the list of open demands.
+pub type Place = [u32; 5];
+
+/// One of the two functions that answer.
+pub type Entry = unsafe extern "C" fn(
+    file: *const u8,
+    file_bytes: usize,
+    number: u32,
+    records: *mut u32,
+    record_count: usize,
+    types: *mut u32,
+    type_count: usize,
+    places: *mut Place,
+    place_count: usize,
+    out: *mut u8,
+    out_count: usize,
+) -> u64;
+
+unsafe extern "C" {
+    /// Loads a file. 0: accepted. Else 2^32 times the refusal, plus the line.
+    pub fn roognaps_load(
+        file: *const u8,
+        file_bytes: usize,
+        records: *mut u32,
+        record_count: usize,
+    ) -> u64;
+
+    /// Loads a file and answers one question: the length of the line; 2^32 times refusal 6 to 10; or
+    /// 2^32 times refusal 1 to 5, plus the line of the file.
+    pub fn roognaps_answer(
+        file: *const u8,
+        file_bytes: usize,
+        number: u32,
+        records: *mut u32,
+        record_count: usize,
+        types: *mut u32,
+        type_count: usize,
+        places: *mut Place,
+        place_count: usize,
+        out: *mut u8,
+        out_count: usize,
+    ) -> u64;
+
+    /// Loads a file and answers its questions from one on, as many as have lines that fit: their
+    /// bytes, plus 2^32 times the question to go on with, which is 0 at the end; or 2^63, plus 2^32
+    /// times refusal 1 to 5, plus the line of the file.
+    pub fn roognaps_answer_from(
+        file: *const u8,
+        file_bytes: usize,
+        from: u32,
+        records: *mut u32,
+        record_count: usize,
+        types: *mut u32,
+        type_count: usize,
+        places: *mut Place,
+        place_count: usize,
+        out: *mut u8,
+        out_count: usize,
+    ) -> u64;
+}
