@@ -37,8 +37,12 @@ extern "C" {
 #define ROOGNAPS_FILE_BYTES 65536
 #define ROOGNAPS_QUESTIONS 256
 
-/* No question takes more stack (docs/BENCHMARKS.md). A thread may need pthread_attr_setstacksize. */
-#define ROOGNAPS_STACK_BYTES (6u << 20)
+/*
+ * The stack that a call that answers wants: the most that was found is 4.7 MB, and no bound is proved
+ * (docs/BENCHMARKS.md). Too little ends the process. A program's first thread usually has 8 MB; for
+ * others see pthread_attr_setstacksize.
+ */
+#define ROOGNAPS_STACK_BYTES (8u << 20)
 
 /* A place of the list of open demands. */
 typedef uint32_t roognaps_place[5];

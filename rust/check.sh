@@ -36,7 +36,8 @@ else
     echo "format: cargo fmt isn't at hand"
 fi
 if at_hand cargo clippy; then
-    step lint cargo clippy --offline --workspace -- -D warnings
+    # The crates over the static library are looked at without it.
+    step lint env ROOGNAPS_UNLINKED=1 cargo clippy --offline --workspace -- -D warnings
     step "lint of tests" cargo clippy --offline --all-targets -- -D warnings
 else
     echo "lint: cargo clippy isn't at hand"

@@ -14,7 +14,7 @@ import shutil
 import subprocess
 import sys
 
-from check_index_runs import ROOT, VECTOR_FILES, vectors
+from runs import ROOT, VECTOR_FILES, vectors
 
 MADE = os.path.join(ROOT, "target", "library_runs")
 WARNINGS = ["-Wall", "-Wextra", "-Werror", "-pedantic", "-std=c11", "-g"]
@@ -69,7 +69,7 @@ def files():
         yield sample()
     for name in VECTOR_FILES:
         step = MALFORMED_STEP if name.startswith("malformed") else 1
-        yield from list(vectors(os.path.join(ROOT, "rust", "vectors", name)))[::step]
+        yield from list(vectors(name))[::step]
 
 
 def example_in_c(folder):
@@ -122,6 +122,29 @@ def at_hand(*words):
         return False
 
 
+def wrong_library():
+    """The crate's calls over a library that answers at random: no panic."""
+    folder = os.path.join(MADE, "wrong")
+    os.makedirs(folder, exist_ok=True)
+    object_file, archive = os.path.join(folder, "wrong.o"), os.path.join(folder, "libexport.a")
+    for words in [
+        ["cc", *WARNINGS, "-O1", "-fPIC", "-Iinclude", "-c", "tools/robust/wrong.c", "-o", object_file],
+        ["ar", "rcs", archive, object_file],
+    ]:
+        made = run(words, cwd=ROOT)
+        if made.returncode != 0:
+            print(made.stdout)
+            say("the wrong library isn't made")
+            return False
+    words = ["test", "--offline", "-p", "roognaps", "--test", "wrong_library", "--target-dir", os.path.join(folder, "build"), "--", "--ignored", "--nocapture"]
+    tested = cargo("the crate over a wrong library", *words, EXPORT_LIB=folder)
+    if tested is None:
+        return False
+    counts = re.search(r"^answers, refusals, faults: (.*)$", tested, re.MULTILINE)
+    say(f"rust/roognaps over a library that answers at random: no panic (answers, refusals, faults: {counts.group(1)})")
+    return True
+
+
 def rust_crate():
     tested = cargo("the crate's tests", "test", "--offline", "-p", "roognaps", "--features", "export")
     if tested is None:
@@ -159,6 +182,8 @@ def main():
         say("cc isn't at hand; the C programs are left out")
     if shutil.which("cargo"):
         well = rust_crate() and well
+        if shutil.which("cc"):
+            well = wrong_library() and well
     else:
         say("cargo isn't at hand; the Rust crate is left out")
     return 0 if well else 1

@@ -25,9 +25,9 @@ clang -fsanitize=fuzzer -o "$made/fuzz" "$made/build/$machine/release/libfuzz.a"
 
 PYTHONPATH=$repository/tools python3 - "$made/corpus" <<'P'
 import os, sys
-import check_index_runs
-for name in check_index_runs.VECTOR_FILES:
-    for vector, file, _ in check_index_runs.vectors(os.path.join(check_index_runs.ROOT, "rust", "vectors", name)):
+import runs
+for name in runs.VECTOR_FILES:
+    for vector, file, _ in runs.vectors(name):
         with open(os.path.join(sys.argv[1], vector), "wb") as out:
             out.write(file)
 P

@@ -3,7 +3,7 @@
 //!
 //! A slice is a pointer and a length. Lengths may be anything, also too short: then the answer is
 //! refusal 1 and nothing is touched. The pointers must be valid for their lengths, and no two buffers
-//! may overlap. An answering call takes up to [`DEEPEST_BYTES`](crate::DEEPEST_BYTES) of stack.
+//! may overlap. A call that answers wants 8 MB of stack ([`on_large_stack`](crate::on_large_stack)).
 
 /// Words of 32 bits in a record buffer.
 pub const RECORD_WORDS: usize = 16_384;

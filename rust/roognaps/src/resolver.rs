@@ -3,6 +3,9 @@
 use crate::raw::{self, ANSWER_BYTES, Entry, PLACES, Place, RECORD_WORDS, TYPE_WORDS};
 use crate::{Answer, AnswerLine, Error, LibraryFault, Refusal, on_large_stack};
 
+/// A file has no more questions.
+const QUESTIONS: u32 = 256;
+
 /// The buffers of the library, allocated once, and the calls that use them.
 ///
 /// Nothing of one call is read by the next: each loads its file first. One resolver serves any number
@@ -185,7 +188,7 @@ impl Resolver {
         }
         let count = take(text)?;
         let counted = from as usize + count;
-        if high > 0 && (count == 0 || counted != high as usize) {
+        if high > 0 && (count == 0 || counted != high as usize || high > QUESTIONS) {
             return Err(LibraryFault::new(format!(
                 "{count} lines from question {from} on, and {high} is said to be next"
             ))
