@@ -33,5 +33,6 @@ for name in runs.VECTOR_FILES:
 P
 # The oracle takes more stack than the library.
 ulimit -s 524288
-[ $# -gt 0 ] || set -- -runs=1000000 -seed=1 -max_len=20000
-exec "$made/fuzz" -dict=fuzz/words.dict -artifact_prefix="$made/" -mutate_depth=1 -print_final_stats=1 "$@" "$made/corpus"
+[ $# -gt 0 ] || set -- -runs=1000000 -seed=1
+exec "$made/fuzz" -dict=fuzz/words.dict -artifact_prefix="$made/" \
+    -mutate_depth=1 -max_len=20000 -print_final_stats=1 "$@" "$made/corpus"

@@ -19,7 +19,7 @@ thread_local! {
 /// A [`Resolver`](crate::Resolver) does this by itself for each call that answers, since a thread of
 /// Rust has 2 MB where the deepest question takes more, and too little stack ends the process. Who
 /// makes many calls puts them into one `on_large_stack`: inside it a call stays on the thread that it
-/// is on, and only the first one pays for a thread (some 20 microseconds).
+/// is on, and only the first one pays for a thread (some 30 microseconds).
 ///
 /// The error is the system's, where it gives no thread. A panic inside goes on outside.
 ///
