@@ -154,7 +154,7 @@ def rust_crate():
     if cargo("the crate's documentation", "doc", "--offline", "-p", "roognaps", "--no-deps", RUSTDOCFLAGS="-D warnings") is None:
         return False
     if at_hand("cargo", "clippy"):
-        packages = ["-p", "roognaps", "-p", "fuzz"]
+        packages = ["-p", "roognaps", "-p", "fuzz", "--features", "roognaps/export"]
         if cargo("the lint", "clippy", "--offline", *packages, "--all-targets", "--", "-D", "warnings") is None:
             return False
     moved = cargo("the example `moved`", "run", "--offline", "--quiet", "-p", "roognaps", "--example", "moved")
