@@ -7,6 +7,7 @@ use std::hint::black_box;
 
 use index_file::load::load;
 use oracle::{Options, Oracle, answer_bytes};
+use roognaps::Resolver;
 
 use crate::answered_files::Asked;
 use crate::library::{self, Buffers};
@@ -57,20 +58,21 @@ fn compared(file: &Asked) -> Result<usize, String> {
 
 pub fn whole_files(files: &[Asked], rounds: usize) -> Result<(), String> {
     println!(
-        "| file | bytes | questions | calls | proved | of it loading | Rust, no store | Rust, store \
-         | no store / proved | store / proved |"
+        "| file | bytes | questions | calls | proved | of it loading | by the crate | Rust, no store \
+         | Rust, store | no store / proved | store / proved |"
     );
-    println!("|---|---|---|---|---|---|---|---|---|---|");
+    println!("|---|---|---|---|---|---|---|---|---|---|---|");
     for file in files {
         let calls = compared(file)?;
-        let [proved, loading, plain, stored] = times(file, rounds);
+        let [proved, loading, read, plain, stored] = times(file, rounds);
         println!(
-            "| {} | {} | {} | {calls} | {:.1} us | {:.1} us | {:.1} us | {:.1} us | {:.1} | {:.1} |",
+            "| {} | {} | {} | {calls} | {:.1} us | {:.1} us | {:.1} us | {:.1} us | {:.1} us | {:.1} | {:.1} |",
             file.name,
             file.bytes.len(),
             file.questions(),
             proved / 1e3,
             loading * calls as f64 / 1e3,
+            read / 1e3,
             plain / 1e3,
             stored / 1e3,
             plain / proved,
@@ -90,7 +92,7 @@ pub fn growth(rows: &[Vec<Asked>], rounds: usize) -> Result<(), String> {
         let mut half: Option<[f64; 3]> = None;
         for file in row {
             compared(file)?;
-            let [proved, _, plain, stored] = times(file, rounds);
+            let [proved, _, _, plain, stored] = times(file, rounds);
             let now = [proved, plain, stored];
             let cells = (0..3).map(|at| {
                 let grown =
@@ -104,7 +106,7 @@ pub fn growth(rows: &[Vec<Asked>], rounds: usize) -> Result<(), String> {
     Ok(())
 }
 
-fn times(file: &Asked, rounds: usize) -> [f64; 4] {
+fn times(file: &Asked, rounds: usize) -> [f64; 5] {
     let bytes = &file.bytes[..];
     let mut buffers = Buffers::new();
     let proved = move || {
@@ -121,6 +123,15 @@ fn times(file: &Asked, rounds: usize) -> [f64; 4] {
         let verdict = library::load(black_box(bytes), &mut records);
         black_box(verdict).expect("accepted before");
     };
+    // The lines read into the crate's types; `on_large_stack` is around all of this.
+    let mut resolver = Resolver::new();
+    let read = move || {
+        if file.first_only {
+            black_box(resolver.answer(black_box(bytes), 0)).expect("answered before");
+        } else {
+            black_box(resolver.answers(black_box(bytes))).expect("answered before");
+        }
+    };
     let rust = |memo| {
         move || {
             if file.first_only {
@@ -132,9 +143,10 @@ fn times(file: &Asked, rounds: usize) -> [f64; 4] {
             }
         }
     };
-    let contenders: [Contender; 4] = [
+    let contenders: [Contender; 5] = [
         Box::new(proved),
         Box::new(loading),
+        Box::new(read),
         Box::new(rust(false)),
         Box::new(rust(true)),
     ];

@@ -73,12 +73,12 @@ fn main() -> ExitCode {
 #[cfg(originals)]
 fn answers(files: &[files::File], rounds: usize) -> ExitCode {
     let (whole, growing) = (answered_files::whole(files), answered_files::growing());
-    let measured = oracle::with_large_stack(|| {
+    let measured = roognaps::on_large_stack(|| {
         answering::whole_files(&whole, rounds)?;
         println!();
         answering::growth(&growing, rounds)
     });
-    match measured {
+    match measured.unwrap_or_else(|error| Err(error.to_string())) {
         Ok(()) => ExitCode::SUCCESS,
         Err(difference) => {
             println!("{difference}");
