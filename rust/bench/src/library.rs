@@ -1,6 +1,7 @@
 //! The proved functions of the static library, as crates/export declares them.
 
 use index_file::load::Refusal;
+use roognaps::raw::{self, ANSWER_BYTES, Entry, PLACES, Place, RECORD_WORDS, TYPE_WORDS};
 
 /// A slice is a pointer and a length.
 mod export {
@@ -48,32 +49,6 @@ mod export {
             m: u32,
             s: u32,
         ) -> u64;
-        pub fn roognaps_answer(
-            file: *const u8,
-            n: usize,
-            number: u32,
-            records: *mut u32,
-            record_count: usize,
-            types: *mut u32,
-            type_count: usize,
-            places: *mut [u32; 5],
-            place_count: usize,
-            out: *mut u8,
-            out_count: usize,
-        ) -> u64;
-        pub fn roognaps_answer_from(
-            file: *const u8,
-            n: usize,
-            from: u32,
-            records: *mut u32,
-            record_count: usize,
-            types: *mut u32,
-            type_count: usize,
-            places: *mut [u32; 5],
-            place_count: usize,
-            out: *mut u8,
-            out_count: usize,
-        ) -> u64;
     }
 }
 
@@ -100,63 +75,34 @@ pub fn load(file: &[u8], records: &mut [u32]) -> Result<(), Refusal> {
 pub struct Buffers {
     pub records: Vec<u32>,
     pub types: Vec<u32>,
-    pub places: Vec<[u32; 5]>,
+    pub places: Vec<Place>,
     pub out: Vec<u8>,
 }
 
 impl Buffers {
     pub fn new() -> Self {
         Self {
-            records: vec![0; 16_384],
-            types: vec![0; 8_192],
-            places: vec![[0; 5]; 256],
-            out: vec![0; 4_160],
+            records: vec![0; RECORD_WORDS],
+            types: vec![0; TYPE_WORDS],
+            places: vec![[0; 5]; PLACES],
+            out: vec![0; ANSWER_BYTES],
         }
     }
 }
 
-/// The function of the two that answer, with all its buffers.
-type Entry = unsafe extern "C" fn(
-    *const u8,
-    usize,
-    u32,
-    *mut u32,
-    usize,
-    *mut u32,
-    usize,
-    *mut [u32; 5],
-    usize,
-    *mut u8,
-    usize,
-) -> u64;
-
 fn enter(entry: Entry, file: &[u8], number: usize, buffers: &mut Buffers) -> u64 {
-    let Buffers {
-        records,
-        types,
-        places,
-        out,
-    } = buffers;
-    unsafe {
-        entry(
-            file.as_ptr(),
-            file.len(),
-            number as u32,
-            records.as_mut_ptr(),
-            records.len(),
-            types.as_mut_ptr(),
-            types.len(),
-            places.as_mut_ptr(),
-            places.len(),
-            out.as_mut_ptr(),
-            out.len(),
-        )
-    }
+    let buffers = raw::Buffers {
+        records: &mut buffers.records,
+        types: &mut buffers.types,
+        places: &mut buffers.places,
+        out: &mut buffers.out,
+    };
+    raw::enter(entry, file, number as u32, buffers)
 }
 
 /// The length of the line of one question, or the number of a refusal.
 pub fn answer(file: &[u8], number: usize, buffers: &mut Buffers) -> Result<usize, u64> {
-    let answer = enter(export::roognaps_answer, file, number, buffers);
+    let answer = enter(Entry::Answer, file, number, buffers);
     match answer >> 32 {
         0 => Ok(answer as usize),
         refusal => Err(refusal),
@@ -170,7 +116,7 @@ pub struct Lines {
 }
 
 pub fn answer_from(file: &[u8], from: usize, buffers: &mut Buffers) -> Result<Lines, Refusal> {
-    let answer = enter(export::roognaps_answer_from, file, from, buffers);
+    let answer = enter(Entry::AnswerFrom, file, from, buffers);
     if answer >> 63 == 1 {
         return Err(Refusal {
             number: (answer >> 32) as u8,

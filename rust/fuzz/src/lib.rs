@@ -16,7 +16,7 @@ use index_file::load::{Refusal, load};
 use index_file::records::Index;
 use index_file::words::{WORDS, with_plain_empty_lists, words};
 use roognaps::AnswerLine;
-use roognaps::raw::{self, ANSWER_BYTES, Entry, PLACES, Place, RECORD_WORDS, TYPE_WORDS};
+use roognaps::raw::{self, ANSWER_BYTES, Buffers, Entry, PLACES, Place, RECORD_WORDS, TYPE_WORDS};
 
 /// What the buffers hold before a call.
 const WORD: u32 = 0xA5A5_A5A5;
@@ -179,24 +179,13 @@ impl Target {
 
     fn call(&mut self, entry: Entry, length: usize, number: u32) -> u64 {
         let file = self.file.last(length);
-        let (records, types) = (self.records.all(), self.types.all());
-        let (places, out) = (self.places.all(), self.out.all());
-        // SAFETY: slices with their lengths, none of which overlaps another.
-        unsafe {
-            entry(
-                file.as_ptr(),
-                file.len(),
-                number,
-                records.as_mut_ptr(),
-                records.len(),
-                types.as_mut_ptr(),
-                types.len(),
-                places.as_mut_ptr(),
-                places.len(),
-                out.as_mut_ptr(),
-                out.len(),
-            )
-        }
+        let buffers = Buffers {
+            records: self.records.all(),
+            types: self.types.all(),
+            places: self.places.all(),
+            out: self.out.all(),
+        };
+        raw::enter(entry, file, number, buffers)
     }
 
     fn assert_zero_records_and_the_rest_as_it_was(&mut self) {
@@ -209,11 +198,11 @@ impl Target {
 
     fn refused_file(&mut self, length: usize, refusal: Refusal) {
         self.fill();
-        let given = self.call(raw::roognaps_answer, length, 0);
+        let given = self.call(Entry::Answer, length, 0);
         assert_eq!(given, packed(refusal), "answer");
         self.assert_zero_records_and_the_rest_as_it_was();
         self.fill();
-        let given = self.call(raw::roognaps_answer_from, length, 0);
+        let given = self.call(Entry::AnswerFrom, length, 0);
         assert_eq!(given, (1 << 63) + packed(refusal), "answer_from");
         self.assert_zero_records_and_the_rest_as_it_was();
     }
@@ -238,7 +227,7 @@ impl Target {
             self.one_question(length, number, &lines[number]);
         }
         self.fill();
-        let lacking = self.call(raw::roognaps_answer, length, count as u32);
+        let lacking = self.call(Entry::Answer, length, count as u32);
         assert_eq!(lacking, 5 << 32, "a question that isn't there");
         self.assert_zero_records_and_the_rest_as_it_was();
     }
@@ -248,7 +237,7 @@ impl Target {
         let mut lines = Vec::new();
         loop {
             self.fill();
-            let given = self.call(raw::roognaps_answer_from, length, lines.len() as u32);
+            let given = self.call(Entry::AnswerFrom, length, lines.len() as u32);
             let (next, bytes) = ((given >> 32) as usize, given as u32 as usize);
             assert_eq!(given >> 63, 0, "answer_from refuses");
             let (text, behind) = self.out.all().split_at(bytes);
@@ -271,7 +260,7 @@ impl Target {
 
     fn one_question(&mut self, length: usize, number: usize, line: &str) {
         self.fill();
-        let given = self.call(raw::roognaps_answer, length, number as u32);
+        let given = self.call(Entry::Answer, length, number as u32);
         let bytes = given as u32 as usize;
         let (text, behind) = self.out.all().split_at(bytes);
         assert!(behind.iter().all(|byte| *byte == BYTE), "behind the line");

@@ -18,19 +18,56 @@ pub const ANSWER_BYTES: usize = 4_160;
 pub type Place = [u32; 5];
 
 /// One of the two functions that answer.
-pub type Entry = unsafe extern "C" fn(
-    file: *const u8,
-    file_bytes: usize,
-    number: u32,
-    records: *mut u32,
-    record_count: usize,
-    types: *mut u32,
-    type_count: usize,
-    places: *mut Place,
-    place_count: usize,
-    out: *mut u8,
-    out_count: usize,
-) -> u64;
+#[derive(Debug, Clone, Copy, PartialEq, Eq)]
+pub enum Entry {
+    /// [`roognaps_answer`].
+    Answer,
+    /// [`roognaps_answer_from`].
+    AnswerFrom,
+}
+
+/// The buffers of a call that answers.
+#[derive(Debug)]
+pub struct Buffers<'a> {
+    /// The record buffer.
+    pub records: &'a mut [u32],
+    /// The type buffer.
+    pub types: &'a mut [u32],
+    /// The list of open demands.
+    pub places: &'a mut [Place],
+    /// The answer buffer.
+    pub out: &'a mut [u8],
+}
+
+/// The call with slices, of whatever length; what comes back is the function's own number.
+pub fn enter(entry: Entry, file: &[u8], number: u32, buffers: Buffers<'_>) -> u64 {
+    let Buffers {
+        records,
+        types,
+        places,
+        out,
+    } = buffers;
+    let entry = match entry {
+        Entry::Answer => roognaps_answer,
+        Entry::AnswerFrom => roognaps_answer_from,
+    };
+    // SAFETY: all are slices with their lengths, and none overlaps another.
+    unsafe {
+        entry(
+            file.as_ptr(),
+            file.len(),
+            number,
+            records.as_mut_ptr(),
+            records.len(),
+            types.as_mut_ptr(),
+            types.len(),
+            places.as_mut_ptr(),
+            places.len(),
+            out.as_mut_ptr(),
+            out.len(),
+        )
+    }
+}
 
 unsafe extern "C" {
     /// Loads a file. 0: accepted. Else 2^32 times the refusal, plus the line.

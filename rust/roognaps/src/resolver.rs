@@ -1,6 +1,6 @@
 //! The buffers and the calls.
 
-use crate::raw::{self, ANSWER_BYTES, Entry, PLACES, Place, RECORD_WORDS, TYPE_WORDS};
+use crate::raw::{self, ANSWER_BYTES, Buffers, Entry, PLACES, Place, RECORD_WORDS, TYPE_WORDS};
 use crate::{Answer, AnswerLine, Error, LibraryFault, Refusal, on_large_stack};
 
 /// A file has no more questions.
@@ -136,7 +136,7 @@ impl Resolver {
     }
 
     fn one(&mut self, file: &[u8], question: u32) -> Result<Answer, Error> {
-        let given = self.enter(raw::roognaps_answer, file, question);
+        let given = self.enter(Entry::Answer, file, question);
         let (number, length) = ((given >> 32) as u32, given as u32);
         if number > 0 {
             return Err(refused(number, length, 1..=10));
@@ -177,7 +177,7 @@ impl Resolver {
         from: u32,
         take: &mut impl FnMut(&str) -> Result<usize, LibraryFault>,
     ) -> Result<u32, Error> {
-        let given = self.enter(raw::roognaps_answer_from, file, from);
+        let given = self.enter(Entry::AnswerFrom, file, from);
         let (high, low) = ((given >> 32) as u32, given as u32);
         if high >> 31 == 1 {
             return Err(refused(high & 0x7fff_ffff, low, 1..=5));
@@ -204,28 +204,13 @@ impl Resolver {
     }
 
     fn enter(&mut self, entry: Entry, file: &[u8], number: u32) -> u64 {
-        let Self {
-            records,
-            types,
-            places,
-            out,
-        } = self;
-        // SAFETY: all are slices with their lengths, and none overlaps another.
-        unsafe {
-            entry(
-                file.as_ptr(),
-                file.len(),
-                number,
-                records.as_mut_ptr(),
-                records.len(),
-                types.as_mut_ptr(),
-                types.len(),
-                places.as_mut_ptr(),
-                places.len(),
-                out.as_mut_ptr(),
-                out.len(),
-            )
-        }
+        let buffers = Buffers {
+            records: &mut self.records,
+            types: &mut self.types,
+            places: &mut self.places,
+            out: &mut self.out,
+        };
+        raw::enter(entry, file, number, buffers)
     }
 }
 
