@@ -10,7 +10,8 @@ use oracle::{Options, Oracle, answer_bytes};
 use roognaps::Resolver;
 
 use crate::answered_files::Asked;
-use crate::library::{self, Buffers};
+use crate::entries::{self, Buffers};
+use crate::library;
 use crate::timing::{Contender, medians};
 
 /// As many demands as a question takes: nothing is given up.
@@ -28,7 +29,7 @@ fn options(memo: bool) -> Options {
 fn proved_lines(file: &[u8], buffers: &mut Buffers) -> Result<(Vec<u8>, usize), String> {
     let (mut lines, mut from, mut calls) = (Vec::new(), 0, 0);
     loop {
-        let part = library::answer_from(file, from, buffers);
+        let part = entries::answer_from(file, from, buffers);
         let part = part.map_err(|refusal| refusal.answer_line())?;
         lines.extend_from_slice(&buffers.out[..part.bytes]);
         calls += 1;
@@ -48,7 +49,7 @@ fn compared(file: &Asked) -> Result<usize, String> {
             return Err(format!("{}: other lines than the Rust's", file.name));
         }
     }
-    let first = library::answer(&file.bytes, 0, &mut buffers);
+    let first = entries::answer(&file.bytes, 0, &mut buffers);
     let first = first.map_err(|refusal| format!("{}: {refusal}", file.name))?;
     match lines.starts_with(&buffers.out[..first]) {
         true => Ok(calls),
@@ -111,7 +112,7 @@ fn times(file: &Asked, rounds: usize) -> [f64; 5] {
     let mut buffers = Buffers::new();
     let proved = move || {
         if file.first_only {
-            let line = library::answer(black_box(bytes), 0, &mut buffers);
+            let line = entries::answer(black_box(bytes), 0, &mut buffers);
             black_box(line).expect("answered before");
         } else {
             let lines = proved_lines(black_box(bytes), &mut buffers);

@@ -6,6 +6,8 @@ mod answered_files;
 #[cfg(originals)]
 mod answering;
 mod compare;
+#[cfg(originals)]
+mod entries;
 mod files;
 mod hash_maps;
 mod library;
