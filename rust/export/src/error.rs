@@ -34,6 +34,9 @@ pub enum ExportError {
     Limits(Vec<PassedLimit>),
     /// The index has a shape that no builder makes, such as a first scope with a parent.
     Refused(Refusal),
+    /// The written index is accepted, but read as another one, as where a name has a tab in it and
+    /// becomes two fields. [`records`](crate::records) makes no such index.
+    NotAsWritten,
 }
 
 #[derive(Debug, Clone, Copy, PartialEq, Eq)]
@@ -50,7 +53,8 @@ impl fmt::Display for NameFault {
             Self::Empty => write!(f, "it is empty"),
             Self::Dash => write!(f, "`-` means absent"),
             Self::Long { bytes } => {
-                let (most, over) = (limits::NAME_BYTES, bytes - limits::NAME_BYTES);
+                let most = limits::NAME_BYTES;
+                let over = bytes.saturating_sub(most);
                 write!(f, "{bytes} bytes, {over} more than the {most} of a name")
             }
             Self::Byte { byte } => write!(f, "byte {byte:02X} isn't from 21 to 7E"),
@@ -97,6 +101,10 @@ impl fmt::Display for ExportError {
                     "the written index is refused with {number} at line {line}"
                 )
             }
+            Self::NotAsWritten => write!(
+                f,
+                "the written index is read as another one: a name in it has no form in an index file"
+            ),
         }
     }
 }

@@ -64,10 +64,8 @@ pub fn text(index: &Index) -> Result<String, ExportError> {
     }
     let text = index.to_text();
     match load(text.as_bytes()) {
-        Ok(loaded) => {
-            assert_eq!(loaded, *index, "the text form keeps every field");
-            Ok(text)
-        }
+        Ok(loaded) if loaded == *index => Ok(text),
+        Ok(_) => Err(ExportError::NotAsWritten),
         Err(refusal) => Err(ExportError::Refused(refusal)),
     }
 }

@@ -2,7 +2,7 @@
 
 use std::collections::HashMap;
 use std::fmt;
-use std::path::PathBuf;
+use std::path::{Path, PathBuf};
 
 use cairo_m_compiler_diagnostics::Diagnostic;
 use cairo_m_compiler_semantic as semantic;
@@ -18,6 +18,35 @@ pub struct Source {
     pub module: String,
     pub path: String,
     pub text: String,
+}
+
+impl Source {
+    /// The source that an argument `[MODULE=]FILE` names. A module is called by the file's stem if
+    /// not said otherwise. The error says which file can't be read and why.
+    pub fn from_argument(argument: &str) -> Result<Self, String> {
+        let (module, path) = match argument.split_once('=') {
+            Some((module, path)) => (module.to_string(), path),
+            None => {
+                let stem = Path::new(argument).file_stem().unwrap_or_default();
+                (stem.to_string_lossy().to_string(), argument)
+            }
+        };
+        let text = std::fs::read_to_string(path).map_err(|error| format!("{path}: {error}"))?;
+        Ok(Self {
+            module,
+            path: path.to_string(),
+            text,
+        })
+    }
+
+    /// Line and column of a byte, from 1.
+    pub fn line_and_column(&self, at: usize) -> (usize, usize) {
+        let before = &self.text.as_bytes()[..at.min(self.text.len())];
+        let line = before.iter().filter(|byte| **byte == b'\n').count() + 1;
+        let line_start = before.iter().rposition(|byte| *byte == b'\n');
+        let column = before.len() - line_start.map_or(0, |at| at + 1) + 1;
+        (line, column)
+    }
 }
 
 #[derive(Debug, Clone, PartialEq, Eq)]
@@ -85,8 +114,20 @@ pub fn semantic_indexes(sources: &[Source]) -> Result<Vec<SemanticIndex>, Source
     }
     let project = semantic::project_semantic_index(&db, crate_id)
         .map_err(|diagnostics| messages(sources, diagnostics))?;
-    let indexes = sources.iter().map(|s| project.modules()[&s.module].clone());
-    Ok(indexes.collect())
+    let indexes = sources.iter().enumerate().map(|(number, source)| {
+        let index = project.modules().get(&source.module).cloned();
+        index.ok_or_else(|| not_indexed(number, source))
+    });
+    indexes.collect()
+}
+
+/// The builder complained of nothing, but has no index for a module.
+fn not_indexed(number: usize, source: &Source) -> SourceError {
+    SourceError::Messages(vec![Message {
+        source: number,
+        place: None,
+        text: format!("module {} has no index", source.module),
+    }])
 }
 
 /// The index of the sources, in their order, with a question for each expression and each definition,
@@ -117,12 +158,9 @@ fn messages(sources: &[Source], diagnostics: impl IntoIterator<Item = Diagnostic
 fn message(sources: &[Source], diagnostic: Diagnostic) -> Message {
     let found = sources.iter().position(|s| s.path == diagnostic.file_path);
     let place = found.map(|number| {
-        let Source { path, text, .. } = &sources[number];
-        let before = &text.as_bytes()[..diagnostic.span.start.min(text.len())];
-        let line = before.iter().filter(|byte| **byte == b'\n').count() + 1;
-        let line_start = before.iter().rposition(|byte| *byte == b'\n');
-        let column = before.len() - line_start.map_or(0, |at| at + 1) + 1;
-        (path.clone(), line, column)
+        let source = &sources[number];
+        let (line, column) = source.line_and_column(diagnostic.span.start);
+        (source.path.clone(), line, column)
     });
     Message {
         source: found.unwrap_or(sources.len()),

@@ -4,8 +4,11 @@
 
 use export::sources::{Source, SourceError, export_sources, semantic_indexes};
 use export::{ExportError, ModuleIndex, NameFault, all_questions, index_text, records};
+use index_file::limits::PassedLimit;
 use index_file::load::load;
-use index_file::records::Question;
+use index_file::records::{
+    Definition, DefinitionKind, Index, Module, Question, Scope, ScopeKind, TypeExpr,
+};
 use oracle::{Options, Oracle, with_large_stack};
 
 fn source(module: &str, text: &str) -> Source {
@@ -182,4 +185,76 @@ fn a_question_that_no_file_may_ask() {
         let error = index_text(&modules, vec![question]).unwrap_err();
         assert!(matches!(error, ExportError::Refused(r) if r.number == 5));
     });
+}
+
+/// An index that somebody made by hand, with a struct that has one field.
+fn made_by_hand(field: &str) -> Index {
+    let structure = Definition {
+        scope: 0,
+        name: "s".to_string(),
+        name_span: (0, 1),
+        full_span: (0, 9),
+        kind: DefinitionKind::Struct {
+            fields: vec![(field.to_string(), 0)],
+        },
+    };
+    let module = Module {
+        name: "m".to_string(),
+        scopes: vec![Scope {
+            parent: None,
+            kind: ScopeKind::Module,
+        }],
+        types: vec![TypeExpr::Felt],
+        definitions: vec![structure],
+        expressions: Vec::new(),
+    };
+    Index {
+        modules: vec![module],
+        ..Index::default()
+    }
+}
+
+/// One field whose name has tabs is written as two, and loading would accept them.
+#[test]
+fn an_index_that_would_be_read_as_another() {
+    assert!(export::text(&made_by_hand("a")).is_ok());
+    for field in ["a\t0\tb", "a\t0\nQ\tdef\t0\t0\nQ\tdef\t0"] {
+        let index = made_by_hand(field);
+        assert!(load(index.to_text().as_bytes()).is_ok(), "{field:?}");
+        assert_eq!(export::text(&index), Err(ExportError::NotAsWritten));
+    }
+}
+
+/// Numbers in errors are the caller's too: none is too small to be told.
+#[test]
+fn errors_of_any_numbers_have_a_text() {
+    let long = NameFault::Long { bytes: 3 };
+    assert_eq!(long.to_string(), "3 bytes, 0 more than the 64 of a name");
+    let passed = PassedLimit {
+        what: "bytes",
+        count: 1,
+        limit: 2,
+    };
+    assert_eq!(
+        ExportError::Limits(vec![passed]).to_string(),
+        "1 bytes: 0 more than the 2 of an index file"
+    );
+}
+
+#[test]
+fn sources_named_by_arguments() {
+    let path = std::env::temp_dir().join(format!("argument-{}.cm", std::process::id()));
+    std::fs::write(&path, "const A = 1;\n  #").expect("a file");
+    let path = path.to_str().expect("text");
+    let read = Source::from_argument(path);
+    let named = Source::from_argument(&format!("main={path}"));
+    std::fs::remove_file(path).expect("it is there");
+    let (read, named) = (read.expect("it is there"), named.expect("it is there"));
+    assert!(read.module.starts_with("argument-"), "{}", read.module);
+    assert_eq!((named.module.as_str(), named.path.as_str()), ("main", path));
+    assert_eq!(named.text, read.text);
+    assert_eq!(read.line_and_column(15), (2, 3));
+    assert_eq!(read.line_and_column(usize::MAX), (2, 4));
+    let error = Source::from_argument(path).expect_err("it is gone");
+    assert!(error.starts_with(path), "{error}");
 }

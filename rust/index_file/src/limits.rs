@@ -36,7 +36,7 @@ pub struct PassedLimit {
 impl fmt::Display for PassedLimit {
     fn fmt(&self, f: &mut fmt::Formatter<'_>) -> fmt::Result {
         let Self { what, count, limit } = self;
-        let over = count - limit;
+        let over = count.saturating_sub(*limit);
         write!(
             f,
             "{count} {what}: {over} more than the {limit} of an index file"

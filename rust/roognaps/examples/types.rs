@@ -25,7 +25,6 @@ fn main() -> std::process::ExitCode {
 #[cfg(originals)]
 mod with_originals {
     use std::io::Write;
-    use std::path::Path;
 
     use index_file::records::Index;
     use roognaps::export::Source;
@@ -36,8 +35,8 @@ mod with_originals {
         if words.is_empty() {
             return Err("usage: types [MODULE=]FILE.cm...".to_string());
         }
-        let sources: Result<Vec<Source>, String> = words.iter().map(|word| source(word)).collect();
-        let sources = sources?;
+        let sources = words.iter().map(|word| Source::from_argument(word));
+        let sources = sources.collect::<Result<Vec<Source>, String>>()?;
         let mut resolver = Resolver::new();
         let (index, lines) = resolver
             .ask_sources(&sources)
@@ -61,29 +60,9 @@ mod with_originals {
         Ok(())
     }
 
-    /// The source that `[MODULE=]FILE` names.
-    fn source(word: &str) -> Result<Source, String> {
-        let (module, path) = match word.split_once('=') {
-            Some((module, path)) => (module.to_string(), path),
-            None => {
-                let stem = Path::new(word).file_stem().unwrap_or_default();
-                (stem.to_string_lossy().to_string(), word)
-            }
-        };
-        let text = std::fs::read_to_string(path).map_err(|error| format!("{path}: {error}"))?;
-        Ok(Source {
-            module,
-            path: path.to_string(),
-            text,
-        })
-    }
-
     /// Path, line and column.
     fn place(source: &Source, at: usize) -> String {
-        let before = &source.text.as_bytes()[..at.min(source.text.len())];
-        let line = before.iter().filter(|byte| **byte == b'\n').count() + 1;
-        let start = before.iter().rposition(|byte| *byte == b'\n');
-        let column = before.len() - start.map_or(0, |at| at + 1) + 1;
+        let (line, column) = source.line_and_column(at);
         format!("{}:{line}:{column}", source.path)
     }
 

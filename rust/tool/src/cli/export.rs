@@ -1,7 +1,5 @@
 //! `typetool export`.
 
-use std::path::Path;
-
 use export::sources::{Source, export_sources};
 use index_file::limits;
 
@@ -15,8 +13,9 @@ pub fn run(arguments: &mut Arguments) -> CommandResult {
     if words.is_empty() {
         return Err("no file is named; see `typetool export --help`".to_string());
     }
-    let sources: Result<Vec<Source>, String> = words.iter().map(|word| source(word)).collect();
-    let (mut index, _) = export_sources(&sources?).map_err(|error| error.to_string())?;
+    let sources = words.iter().map(|word| Source::from_argument(word));
+    let sources = sources.collect::<Result<Vec<Source>, String>>()?;
+    let (mut index, _) = export_sources(&sources).map_err(|error| error.to_string())?;
     let skipped = skip.min(index.questions.len());
     index.questions.drain(..skipped);
     let count = index.questions.len();
@@ -27,21 +26,4 @@ pub fn run(arguments: &mut Arguments) -> CommandResult {
     let text = export::text(&index).map_err(|error| error.to_string())?;
     print(text.as_bytes());
     Ok(End::Well)
-}
-
-/// The source that `[MODULE=]FILE` names.
-fn source(word: &str) -> Result<Source, String> {
-    let (module, path) = match word.split_once('=') {
-        Some((module, path)) => (module.to_string(), path),
-        None => {
-            let stem = Path::new(word).file_stem().unwrap_or_default();
-            (stem.to_string_lossy().to_string(), word)
-        }
-    };
-    let text = std::fs::read_to_string(path).map_err(|error| format!("{path}: {error}"))?;
-    Ok(Source {
-        module,
-        path: path.to_string(),
-        text,
-    })
 }
