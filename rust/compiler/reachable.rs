@@ -13,8 +13,7 @@ fn originals_are_reachable() -> bool {
     println!("cargo::rerun-if-env-changed=CAIRO_M_SRC");
     println!("cargo::rustc-check-cfg=cfg(originals)");
     let root = originals_root();
-    for name in NEEDED {
-        let path = original_path(&root, name);
+    for path in watched(&root) {
         println!("cargo::rerun-if-changed={}", path.display());
     }
     let reachable = missing(&root).is_empty();
@@ -22,4 +21,17 @@ fn originals_are_reachable() -> bool {
         println!("cargo::rustc-cfg=originals");
     }
     reachable
+}
+
+/// What a later build looks at: the originals that are there, and the folder that would hold the others.
+/// A path that isn't there would have cargo build anew every time. (So where the folder itself is made
+/// later, `touch` a build script or name it in CAIRO_M_SRC.)
+fn watched(root: &Path) -> Vec<PathBuf> {
+    let originals = NEEDED.iter().map(|name| original_path(root, name));
+    let (mut paths, missing): (Vec<PathBuf>, Vec<PathBuf>) =
+        originals.partition(|path| path.exists());
+    if !missing.is_empty() && root.exists() {
+        paths.push(root.to_path_buf());
+    }
+    paths
 }

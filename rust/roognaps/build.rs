@@ -1,13 +1,16 @@
 //! Says where the static library of the proved crates stands: the repository's target/staticlib, or
 //! the folder that `EXPORT_LIB` names. Where it isn't there, the build ends with one line that says
 //! what makes it. `ROOGNAPS_UNLINKED=1` is for `cargo check`, `clippy` and `doc`, which link nothing.
-//! Sets `cfg(originals)` where the original sources are reachable.
+//! With the feature `export` sets `cfg(originals)` where the original sources are reachable.
 
 include!("../compiler/originals.rs");
 include!("../compiler/reachable.rs");
 
 fn main() {
-    originals_are_reachable();
+    match std::env::var_os("CARGO_FEATURE_EXPORT") {
+        Some(_) => _ = originals_are_reachable(),
+        None => println!("cargo::rustc-check-cfg=cfg(originals)"),
+    }
     println!("cargo::rerun-if-env-changed=EXPORT_LIB");
     println!("cargo::rerun-if-env-changed=ROOGNAPS_UNLINKED");
     if std::env::var_os("ROOGNAPS_UNLINKED").is_some() {
