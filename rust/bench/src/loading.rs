@@ -53,29 +53,26 @@ pub fn table(files: &[File], rounds: usize) {
     }
 }
 
+/// Clears the buffer, also where nobody reads it afterwards: the compiler can't tell.
+fn cleared(records: &mut [u32]) -> &mut [u32] {
+    records.fill(0);
+    black_box(records)
+}
+
 fn times(file: &[u8], rounds: usize) -> [f64; 3] {
-    let cleared = || {
-        let mut records = vec![0u32; WORDS];
-        move || {
-            records.fill(0);
-            black_box(records.as_mut_ptr());
-            // The pointer has left, so the buffer may be read and written behind our back.
-            unsafe { std::slice::from_raw_parts_mut(records.as_mut_ptr(), WORDS) }
-        }
-    };
-    let mut of_proved = cleared();
+    let mut of_proved = vec![0; WORDS];
     let proved = move || {
-        let verdict = library::load(black_box(file), of_proved());
+        let verdict = library::load(black_box(file), cleared(&mut of_proved));
         black_box(verdict).expect("accepted before");
     };
-    let mut of_rust = cleared();
+    let mut of_rust = vec![0; WORDS];
     let rust = move || {
-        black_box(of_rust());
+        cleared(&mut of_rust);
         drop(black_box(load::load(black_box(file))));
     };
-    let mut of_scan = cleared();
+    let mut of_scan = vec![0; WORDS];
     let scan = move || {
-        black_box(of_scan());
+        cleared(&mut of_scan);
         let mut sum = 0usize;
         for &byte in black_box(file) {
             let ends = byte == b'\t' || byte == b'\n';

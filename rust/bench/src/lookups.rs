@@ -6,9 +6,9 @@ use std::hint::black_box;
 
 use index_file::load::load;
 use index_file::records::Node;
+use roognaps::raw::{Loaded, Name};
 
 use crate::hash_maps::{FxHasher, Tables};
-use crate::library::{Loaded, Name};
 use crate::timing::{Contender, medians};
 
 /// What is asked: a name in a scope at a span, or an expression.
@@ -74,7 +74,12 @@ pub fn table(file: &[u8], words: &[u32], rounds: usize) {
         rounds,
         Lookup {
             name: "latest_definition_index_by_name_in_chain",
-            proved: &|q| loaded.latest_definition_index_by_name_in_chain(q.m, q.s, q.place),
+            proved: &|q| {
+                link(
+                    loaded
+                        .latest_definition_index_by_name_in_chain(q.m as u32, q.s as u32, q.place),
+                )
+            },
             fx: &|q| fx.latest_definition_index_by_name_in_chain(q.m, q.s, q.name),
             std: &|q| std.latest_definition_index_by_name_in_chain(q.m, q.s, q.name),
         },
@@ -84,7 +89,10 @@ pub fn table(file: &[u8], words: &[u32], rounds: usize) {
         rounds,
         Lookup {
             name: "resolve_name_at_position",
-            proved: &|q| loaded.resolve_name_at_position(q.m, q.place, q.s, q.span),
+            proved: &|q| {
+                let span = (q.span.0 as u32, q.span.1 as u32);
+                link(loaded.resolve_name_at_position(q.m as u32, q.place, q.s as u32, span))
+            },
             fx: &|q| fx.resolve_name_at_position(q.m, q.name, q.s, q.span),
             std: &|q| std.resolve_name_at_position(q.m, q.name, q.s, q.span),
         },
@@ -94,7 +102,7 @@ pub fn table(file: &[u8], words: &[u32], rounds: usize) {
         rounds,
         Lookup {
             name: "definition_for_identifier_expr",
-            proved: &|q| loaded.definition_for_identifier_expr(q.m, q.e),
+            proved: &|q| link(loaded.definition_for_identifier_expr(q.m as u32, q.e as u32)),
             fx: &|q| fx.definition_for_identifier_expr(q.m, q.e),
             std: &|q| std.definition_for_identifier_expr(q.m, q.e),
         },
@@ -104,7 +112,7 @@ pub fn table(file: &[u8], words: &[u32], rounds: usize) {
         rounds,
         Lookup {
             name: "first_function_around (no map)",
-            proved: &|q| loaded.first_function_around(q.m, q.s),
+            proved: &|q| link(loaded.first_function_around(q.m as u32, q.s as u32)),
             fx: &|q| fx.first_function_around(q.m, q.s),
             std: &|q| std.first_function_around(q.m, q.s),
         },
@@ -114,11 +122,15 @@ pub fn table(file: &[u8], words: &[u32], rounds: usize) {
         rounds,
         Lookup {
             name: "module_by_name (std's map in the original)",
-            proved: &|q| loaded.module_by_name(q.place),
+            proved: &|q| link(loaded.module_by_name(q.place)),
             fx: &|q| fx.module_by_name(q.name),
             std: &|q| std.module_by_name(q.name),
         },
     );
+}
+
+fn link(number: Option<u32>) -> Option<usize> {
+    number.map(|number| number as usize)
 }
 
 /// Asks all questions of each side; the answers must be the same.

@@ -26,8 +26,9 @@ Without a word: compares the words that the proved `load` writes for the measure
 that docs/LAYOUT.md sets out, then prints two tables, loading, and lookups on the largest index.
 `answers` compares the lines with the original's, and prints two tables, whole files and how the
 times grow; it needs the original sources.
-`compare` does so for N generated files, most of them with faults (those of `typetool check-index`),
-and compares the refusals with the Rust loader's; differing files are written to target/compare.
+`compare` compares the words for N generated files, most of them with faults (those of `typetool
+check-index`), and the refusals with the Rust loader's; differing files are written to
+target/compare.
 
   --rounds N     take the median of N rounds (else 25)
   --write DIR    only write the measured files there

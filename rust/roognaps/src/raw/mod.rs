@@ -1,9 +1,24 @@
-//! The functions of the static library as they are, for callers with buffers of their own. What
-//! each promises stands in `include/roognaps.h`; [`Resolver`](crate::Resolver) is the safe way.
+//! The functions of the static library for callers with buffers of their own: with slices, and as the
+//! library declares them. What each promises stands in `include/roognaps.h`;
+//! [`Resolver`](crate::Resolver) is the usual way.
 //!
-//! A slice is a pointer and a length. Lengths may be anything, also too short: then the answer is
-//! refusal 1 and nothing is touched. The pointers must be valid for their lengths, and no two buffers
-//! may overlap. A call that answers wants 8 MB of stack ([`on_large_stack`](crate::on_large_stack)).
+//! Slices may have any length, also too short a one: then the answer is refusal 1 and nothing is
+//! touched. The functions as the library declares them (`roognaps_..`) take a slice as a pointer and
+//! a length; the pointers must be valid for their lengths, and no two buffers may overlap.
+//!
+//! A call that answers wants 8 MB of stack ([`on_large_stack`](crate::on_large_stack)), and too little
+//! ends the process. Loading and the lookups take little.
+
+use std::fmt;
+
+mod lookups;
+
+pub use lookups::{Loaded, Name};
+pub use lookups::{
+    roognaps_definition_for_identifier_expr, roognaps_first_function_around,
+    roognaps_latest_definition_index_by_name_in_chain, roognaps_module_by_name,
+    roognaps_resolve_name_at_position,
+};
 
 /// Words of 32 bits in a record buffer.
 pub const RECORD_WORDS: usize = 16_384;
@@ -27,7 +42,6 @@ pub enum Entry {
 }
 
 /// The buffers of a call that answers.
-#[derive(Debug)]
 pub struct Buffers<'a> {
     /// The record buffer.
     pub records: &'a mut [u32],
@@ -39,7 +53,48 @@ pub struct Buffers<'a> {
     pub out: &'a mut [u8],
 }
 
-/// The call with slices, of whatever length; what comes back is the function's own number.
+/// Says how long they are, not what they hold.
+impl fmt::Debug for Buffers<'_> {
+    fn fmt(&self, f: &mut fmt::Formatter<'_>) -> fmt::Result {
+        let Self {
+            records,
+            types,
+            places,
+            out,
+        } = self;
+        let lengths = [records.len(), types.len(), places.len(), out.len()];
+        write_lengths(f, "Buffers", lengths)
+    }
+}
+
+/// Something with four buffers, by their lengths.
+pub(crate) fn write_lengths(
+    f: &mut fmt::Formatter<'_>,
+    name: &str,
+    [records, types, places, out]: [usize; 4],
+) -> fmt::Result {
+    f.debug_struct(name)
+        .field("record_words", &records)
+        .field("type_words", &types)
+        .field("places", &places)
+        .field("answer_bytes", &out)
+        .finish()
+}
+
+/// [`roognaps_load`] with slices of any length; what comes back is the function's own number.
+pub fn load(file: &[u8], records: &mut [u32]) -> u64 {
+    // SAFETY: both are slices with their lengths, and don't overlap.
+    unsafe {
+        roognaps_load(
+            file.as_ptr(),
+            file.len(),
+            records.as_mut_ptr(),
+            records.len(),
+        )
+    }
+}
+
+/// The call with slices of any length; what comes back is the function's own number.
 pub fn enter(entry: Entry, file: &[u8], number: u32, buffers: Buffers<'_>) -> u64 {
     let Buffers {
         records,
@@ -51,7 +106,9 @@ pub fn enter(entry: Entry, file: &[u8], number: u32, buffers: Buffers<'_>) -> u6
         Entry::Answer => roognaps_answer,
         Entry::AnswerFrom => roognaps_answer_from,
     };
-    // SAFETY: all are slices with their lengths, and none overlaps another.
+    // SAFETY: all are slices with their lengths, and none overlaps another. Too little stack is no
+    // danger to memory: the library's frames that are larger than a page touch each page in turn, so
+    // that the guard page below the stack ends the process, as in any deep recursion in Rust.
     unsafe {
         entry(
             file.as_ptr(),
