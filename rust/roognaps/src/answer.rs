@@ -3,7 +3,7 @@
 use std::fmt;
 use std::str::FromStr;
 
-use crate::{LibraryFault, Refusal, Type};
+use crate::{Refusal, Type};
 
 /// What a question asks about, as an answer line names it: a kind of record, its module in the file
 /// and its number in the module.
@@ -128,19 +128,44 @@ impl From<Answer> for AnswerLine {
     }
 }
 
-/// Reads exactly what `Display` writes.
-impl FromStr for AnswerLine {
-    type Err = LibraryFault;
+/// A text that is no answer line.
+#[derive(Debug, Clone, PartialEq, Eq)]
+pub struct NoAnswerLine {
+    /// The text.
+    pub line: String,
+}
 
-    fn from_str(line: &str) -> Result<Self, LibraryFault> {
+impl fmt::Display for NoAnswerLine {
+    fn fmt(&self, f: &mut fmt::Formatter<'_>) -> fmt::Result {
+        write!(f, "{:?} is no answer line", self.line)
+    }
+}
+
+impl std::error::Error for NoAnswerLine {}
+
+/// Reads exactly what `Display` writes.
+///
+/// ```
+/// use roognaps::{AnswerLine, Question, Type};
+///
+/// let line: AnswerLine = "def\t0\t4\ttype\tu32".parse()?;
+/// assert_eq!(line.question, Question::Definition { module: 0, definition: 4 });
+/// assert_eq!(line.result, Ok(Type::U32));
+///
+/// let error = "def\t0".parse::<AnswerLine>().unwrap_err();
+/// assert_eq!(error.to_string(), "\"def\\t0\" is no answer line");
+/// # Ok::<(), roognaps::NoAnswerLine>(())
+/// ```
+impl FromStr for AnswerLine {
+    type Err = NoAnswerLine;
+
+    fn from_str(line: &str) -> Result<Self, NoAnswerLine> {
         let read = read_line(line);
-        let fault = || LibraryFault::new(format!("{line:?} is no answer line"));
-        let read = read.ok_or_else(fault)?;
-        // Numbers with leading zeros or signs, which `parse` takes.
-        if read.to_string() != line {
-            return Err(fault());
-        }
-        Ok(read)
+        // Numbers with leading zeros or signs, which `parse` takes, are written otherwise.
+        let read = read.filter(|read| read.to_string() == line);
+        read.ok_or_else(|| NoAnswerLine {
+            line: line.to_string(),
+        })
     }
 }
 

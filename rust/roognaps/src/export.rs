@@ -4,6 +4,7 @@
 //! looked for); without them the module isn't there.
 
 use std::fmt;
+use std::io;
 
 use ::export::sources::export_sources;
 use ::export::{all_questions, records, text};
@@ -13,9 +14,13 @@ use crate::{AnswerLine, Error, Resolver, on_large_stack};
 
 pub use ::export::sources::{Message, Source, SourceError};
 pub use ::export::{ExportError, ModuleIndex, NameFault};
-pub use index_file::records::{Index, Question};
+pub use index_file::records::Index;
+/// A question as an [`Index`] has it, a Q line: with the context or the scope that it is asked in. What an
+/// answer line repeats of it is a [`Question`](crate::Question).
+pub use index_file::records::Question as QuestionRecord;
 
-/// Why there are no answers.
+/// Why there are no answers. Its text is that of the error inside, which therefore isn't given a second
+/// time as its source.
 #[derive(Debug, Clone, PartialEq, Eq)]
 pub enum AskError {
     /// The source isn't right, or the index can't be written.
@@ -53,13 +58,26 @@ impl From<Error> for AskError {
     }
 }
 
+impl From<io::Error> for AskError {
+    fn from(error: io::Error) -> Self {
+        Self::Resolver(error.into())
+    }
+}
+
+/// Each of these runs on a thread with [`STACK_BYTES`](crate::STACK_BYTES), the original's parser and
+/// index builder with it. Those go as deep as the source is nested and have no bound of their own: a
+/// source that is nested too deeply ends the process, and array literals around each other take twice
+/// the time for each. What the thread was found to bear is 1,700 blocks or 2,800 parentheses around
+/// each other, more than an index file has room for (128 scopes, 512 expressions).
 impl Resolver {
     /// The type of each expression and then each definition, module by module, of the indexes that the
     /// original builder made. A file has at most 256 questions, so more are asked in several.
     pub fn ask_modules(&mut self, modules: &[ModuleIndex]) -> Result<Vec<AnswerLine>, AskError> {
-        let mut index = records(modules)?;
-        index.questions = all_questions(&index);
-        self.ask_index(index)
+        on_large_stack(|| {
+            let mut index = records(modules)?;
+            index.questions = all_questions(&index);
+            self.ask_index(index)
+        })?
     }
 
     /// The records of Cairo-M sources, parsed and indexed by the original, and the type of each
@@ -83,21 +101,23 @@ impl Resolver {
         &mut self,
         sources: &[Source],
     ) -> Result<(Index, Vec<AnswerLine>), AskError> {
-        let (index, _) = export_sources(sources)?;
-        Ok((index.clone(), self.ask_index(index)?))
+        on_large_stack(|| {
+            let (index, _) = export_sources(sources)?;
+            let lines = self.ask_index(index.clone())?;
+            Ok((index, lines))
+        })?
     }
 
     /// What becomes of the questions of an index, however many.
     pub fn ask_index(&mut self, mut index: Index) -> Result<Vec<AnswerLine>, AskError> {
-        let questions: Vec<Question> = std::mem::take(&mut index.questions);
-        let answers = on_large_stack(|| {
+        let questions = std::mem::take(&mut index.questions);
+        on_large_stack(|| {
             let mut lines = Vec::new();
             for some in questions.chunks(limits::QUESTIONS) {
                 index.questions = some.to_vec();
                 lines.extend(self.answers(text(&index)?.as_bytes())?);
             }
             Ok(lines)
-        });
-        answers.map_err(Error::from)?
+        })?
     }
 }

@@ -29,22 +29,27 @@
 //! # Ok::<(), roognaps::Error>(())
 //! ```
 //!
-//! The file's form is in the scope document; `docs/USING.md` goes from source to answers by example,
+//! The file's form is in `docs/FORMAT.md`; `docs/USING.md` goes from source to answers by example,
 //! `docs/REFUSALS.md` says what each [`Refusal`] means and what to do about it.
 //!
 //! # What is proved
 //!
 //! The library: for any bytes, any question number and any buffers, what a call gives and what it
-//! leaves in the buffers is what the definition says. It reads and writes nothing outside them, has no
-//! state, allocates nothing and calls nothing but `memcpy` and its kin. Not proved is this crate, which
-//! is small: it lends the buffers and reads the lines. What the library gives is looked at before it is
-//! used; where it makes no sense, the call gives [`Error::Library`]. Nothing here panics.
+//! leaves in the buffers is what the definition says (`include/roognaps.h` has it call by call). It
+//! reads and writes nothing outside them, has no state, allocates nothing and calls nothing but
+//! `memcpy` and its kin. Not proved is this crate, which is small: it lends the buffers and reads the
+//! lines. What the library gives is looked at before it is used; where it makes no sense, the call
+//! gives [`Error::Library`].
+//!
+//! Nothing here panics, whatever it is given. Only what a caller hands to [`on_large_stack`], and with
+//! the feature `export` the original's own parser and index builder, run as they are.
 //!
 //! # Stack
 //!
-//! The deepest question takes 4.7 MB of stack, more than the 2 MB of a thread that Rust makes, and too
-//! little stack ends the process. So every call that answers runs on a thread of its own with
-//! [`STACK_BYTES`]; [`on_large_stack`] makes one such thread for many calls.
+//! The most stack that a question was found to take is 4.7 MB; no bound is proved. That is more than
+//! the 2 MB of a thread that Rust makes, and too little stack ends the process. So every call that
+//! answers runs on a thread of its own with [`STACK_BYTES`], 16 MB, about three times the most that
+//! was found; [`on_large_stack`] makes one such thread for many calls.
 //!
 //! # Threads and time
 //!
@@ -55,8 +60,9 @@
 //!
 //! # Features
 //!
-//! - `export`: the module `export` with [`Resolver`]'s `ask_modules` and `ask_sources`, for the
-//!   original compiler's `SemanticIndex` and for source. It needs the original sources.
+//! - `export`: the module `export` with [`Resolver`]'s `ask_modules`, `ask_sources` and `ask_index`,
+//!   for the original compiler's `SemanticIndex`, for source and for records. It needs the original
+//!   sources.
 
 #![warn(missing_docs)]
 
@@ -69,7 +75,7 @@ mod resolver;
 mod stack;
 mod types;
 
-pub use answer::{Answer, AnswerLine, Question};
+pub use answer::{Answer, AnswerLine, NoAnswerLine, Question};
 pub use refusal::{Error, LibraryFault, Refusal, Whose};
 pub use resolver::Resolver;
 pub use stack::{STACK_BYTES, on_large_stack};

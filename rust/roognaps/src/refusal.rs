@@ -3,7 +3,9 @@
 use std::fmt;
 use std::io;
 
-/// A refusal of the scope document, 1 to 10. `docs/REFUSALS.md` has each with its smallest file, with
+use crate::NoAnswerLine;
+
+/// A refusal, 1 to 10. `docs/REFUSALS.md` has each with its smallest file, with
 /// what it leaves in the buffers, and with what to do.
 #[derive(Debug, Clone, Copy, PartialEq, Eq, Hash)]
 pub enum Refusal {
@@ -164,7 +166,8 @@ impl fmt::Display for Refusal {
 
 impl std::error::Error for Refusal {}
 
-/// Why a call gives no answer.
+/// Why a call gives no answer. Its text is that of the refusal or the fault inside, which therefore
+/// isn't given a second time as its source.
 #[derive(Debug, Clone, PartialEq, Eq)]
 pub enum Error {
     /// The file or the question is refused.
@@ -195,15 +198,7 @@ impl fmt::Display for Error {
     }
 }
 
-impl std::error::Error for Error {
-    fn source(&self) -> Option<&(dyn std::error::Error + 'static)> {
-        match self {
-            Self::Refused(refusal) => Some(refusal),
-            Self::Library(fault) => Some(fault),
-            Self::Thread(_) => None,
-        }
-    }
-}
+impl std::error::Error for Error {}
 
 impl From<Refusal> for Error {
     fn from(refusal: Refusal) -> Self {
@@ -232,6 +227,12 @@ pub struct LibraryFault {
 impl LibraryFault {
     pub(crate) fn new(said: impl Into<String>) -> Self {
         Self { said: said.into() }
+    }
+}
+
+impl From<NoAnswerLine> for LibraryFault {
+    fn from(error: NoAnswerLine) -> Self {
+        Self::new(error.to_string())
     }
 }
 

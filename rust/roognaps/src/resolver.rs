@@ -1,5 +1,7 @@
 //! The buffers and the calls.
 
+use std::fmt;
+
 use crate::raw::{self, ANSWER_BYTES, Buffers, Entry, PLACES, Place, RECORD_WORDS, TYPE_WORDS};
 use crate::{Answer, AnswerLine, Error, LibraryFault, Refusal, on_large_stack};
 
@@ -23,12 +25,26 @@ const QUESTIONS: u32 = 256;
 /// assert_eq!(lacking, Err(Error::Refused(Refusal::Link { line: 0 })));
 /// # Ok::<(), Error>(())
 /// ```
-#[derive(Debug, Clone)]
+#[derive(Clone)]
 pub struct Resolver {
     records: Box<[u32]>,
     types: Box<[u32]>,
     places: Box<[Place]>,
     out: Box<[u8]>,
+}
+
+/// Says how long the buffers are, not what they hold.
+impl fmt::Debug for Resolver {
+    fn fmt(&self, f: &mut fmt::Formatter<'_>) -> fmt::Result {
+        let Self {
+            records,
+            types,
+            places,
+            out,
+        } = self;
+        let lengths = [records.len(), types.len(), places.len(), out.len()];
+        raw::write_lengths(f, "Resolver", lengths)
+    }
 }
 
 impl Default for Resolver {
@@ -59,16 +75,7 @@ impl Resolver {
     /// assert_eq!(refused, Err(Error::Refused(Refusal::Form { line: 2 })));
     /// ```
     pub fn check(&mut self, file: &[u8]) -> Result<(), Error> {
-        let records = &mut self.records;
-        // SAFETY: both are slices with their lengths, and don't overlap.
-        let verdict = unsafe {
-            raw::roognaps_load(
-                file.as_ptr(),
-                file.len(),
-                records.as_mut_ptr(),
-                records.len(),
-            )
-        };
+        let verdict = raw::load(file, &mut self.records);
         match verdict {
             0 => Ok(()),
             _ => Err(refused((verdict >> 32) as u32, verdict as u32, 1..=5)),

@@ -7,7 +7,7 @@ use std::thread;
 
 /// The stack of a thread of [`on_large_stack`]. The system only gives the part that is used. The most
 /// that a question was found to take is 4.7 MB, with 256 demands open, each inside the one before; no
-/// bound is proved (`docs/BENCHMARKS.md`).
+/// bound is proved (`docs/BENCHMARKS.md`), and this is about three times as much.
 pub const STACK_BYTES: usize = 16 << 20;
 
 thread_local! {
@@ -17,9 +17,9 @@ thread_local! {
 /// Runs something on a thread that has [`STACK_BYTES`] of stack, and waits for it.
 ///
 /// A [`Resolver`](crate::Resolver) does this by itself for each call that answers, since a thread of
-/// Rust has 2 MB where the deepest question takes more, and too little stack ends the process. Who
+/// Rust has 2 MB where the deepest questions take more, and too little stack ends the process. Who
 /// makes many calls puts them into one `on_large_stack`: inside it a call stays on the thread that it
-/// is on, and only the first one pays for a thread (some 30 microseconds).
+/// is on, and only the first one pays for a thread (some 35 microseconds).
 ///
 /// The error is the system's, where it gives no thread. A panic inside goes on outside.
 ///

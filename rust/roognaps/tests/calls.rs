@@ -198,3 +198,20 @@ fn a_resolver_a_thread() {
         }
     });
 }
+
+/// Lengths, not the thirty thousand numbers in them.
+#[test]
+fn debug_is_short() {
+    assert_eq!(
+        format!("{:?}", Resolver::new()),
+        "Resolver { record_words: 16384, type_words: 8192, places: 256, answer_bytes: 4160 }"
+    );
+}
+
+/// A text that was told once isn't told again as a source.
+#[test]
+fn an_error_has_one_text() {
+    let error = Resolver::new().check(b"").expect_err("no file");
+    assert_eq!(error.to_string(), Refusal::FirstLine.to_string());
+    assert!(std::error::Error::source(&error).is_none());
+}
