@@ -5,10 +5,12 @@
  * (x86-64). Link with `cc .. -L target/staticlib -lexport`.
  *
  * What all of them promise, proved for any input: they read and write nothing but the buffers that
- * are lent, in the given lengths; nothing overflows; every call ends; the result and every byte and
- * word of every buffer are what the definition says. They keep nothing between two calls, allocate
- * nothing, and call nothing but memcpy and its kin of the C library. So calls from several threads are
- * fine as long as no two of them share a buffer that is written.
+ * are lent, in the given lengths; nothing overflows; every call ends; the result and every byte of
+ * `out` are those of the definition. The words and places are what is said with each function: the
+ * definition's index and table, zero, or as they were. Of words that no record or type uses nothing
+ * is said after an accepted file. Behind the lengths below nothing changes. The functions keep nothing
+ * between two calls, allocate nothing, and call nothing but memcpy and its kin of the C library. So
+ * calls from several threads are fine as long as no two of them share a buffer that is written.
  *
  * What the caller promises: each pointer is valid for its length (counted in elements, not in bytes),
  * aligned for its element, and not NULL unless the length is 0; no buffer that is written overlaps
@@ -58,7 +60,8 @@ uint64_t roognaps_load(const uint8_t *file, size_t file_bytes, uint32_t *records
 /*
  * Loads a file and answers the question of a number (the Q lines, from 0).
  * A type: the length of its line, LF included, which stands at the start of `out`; the bytes behind
- * it are as they were. Else 2^32 times the refusal, plus the line of the file for 1 to 5:
+ * it are as they were. The records hold the index (docs/LAYOUT.md), the types the table of types that
+ * the question made. Else 2^32 times the refusal, plus the line of the file for 1 to 5:
  *   1       all buffers are as they were
  *   2 to 5  of the file: the records are zero, the other buffers as they were. 5 with line 0: the
  *           file has no question of this number
@@ -76,8 +79,13 @@ uint64_t roognaps_answer(const uint8_t *file, size_t file_bytes, uint32_t number
  * Loads a file and answers its questions from a number on: the lines, one behind the other at the
  * start of `out`, of as many as fit into ROOGNAPS_ANSWER_BYTES, at least one if there is one. A
  * question with refusal 6 to 10 has its line among them.
- * The bytes of the lines, plus 2^32 times the question to go on with, 0 where all are there; or 2^63,
- * plus 2^32 times refusal 1 to 5 of the file, plus its line, and then the buffers are as for
+ * The bytes of the lines, plus 2^32 times the question to go on with, 0 where all are there. The bytes
+ * behind the lines are as they were, and the records hold the index. The types are
+ *   zero                           where there is a question to go on with, or the last is refused
+ *   the table of the last question where all lines are there and it has a type
+ *   as they were                   where there was no question from that number on
+ * and the places are zero, in the third case as they were.
+ * Or 2^63, plus 2^32 times refusal 1 to 5 of the file, plus its line, and then the buffers are as for
  * roognaps_answer. 5 with line 0: the number is above the number of questions.
  * Take the result apart with roognaps_from_refusal, roognaps_line, roognaps_length, roognaps_next.
  */
@@ -121,7 +129,8 @@ static inline uint32_t roognaps_next(uint64_t result)
  * Lookups in loaded words: `words` are those of an accepted file, `file` its bytes. m is a module's
  * number in the file; s, e and the result are numbers in that module. A name is the place of its first
  * byte in the file and its length. The result is 0 for none, else the number and 1.
- * They promise what the lookups of semantic_index.rs give, for any file and words whatever.
+ * They promise what the lookups of semantic_index.rs give, for a module number below the number of
+ * modules; for another one, what the words there hold.
  */
 uint64_t roognaps_module_by_name(const uint8_t *file, size_t file_bytes,
                                  const uint32_t *words, size_t word_count,
