@@ -21,14 +21,23 @@ unsafe extern "C" {
     fn mprotect(at: *mut c_void, length: usize, protection: c_int) -> c_int;
 }
 
+/// # Safety
+/// Zero bytes are a value of such a type.
+pub unsafe trait Zeroed: Copy {}
+
+// SAFETY: numbers, and an array of numbers.
+unsafe impl Zeroed for u8 {}
+unsafe impl Zeroed for u32 {}
+unsafe impl Zeroed for [u32; 5] {}
+
 /// Some elements, the last one before a guarded page.
 pub struct Guarded<T> {
     first: *mut T,
     count: usize,
 }
 
-impl<T: Copy> Guarded<T> {
-    /// Zeros. They are never given back.
+impl<T: Zeroed> Guarded<T> {
+    /// Zeros, as new pages are. They are never given back.
     pub fn new(count: usize) -> Self {
         let bytes = count * size_of::<T>();
         let pages = bytes.div_ceil(PAGE) * PAGE;
@@ -47,7 +56,7 @@ impl<T: Copy> Guarded<T> {
     }
 
     pub fn all(&mut self) -> &mut [T] {
-        // SAFETY: the elements of `new`, lent as long as self is.
+        // SAFETY: the elements of `new`, which zeros are; lent as long as self is.
         unsafe { std::slice::from_raw_parts_mut(self.first, self.count) }
     }
 

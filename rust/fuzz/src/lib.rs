@@ -1,7 +1,8 @@
 //! One input through the static library, and all that is known of it compared: the verdict and the
 //! record words with the Rust loader's, the answers with the oracle's where the original sources are
-//! reachable, one way of asking with the other, and every buffer with what it has to hold. The first
-//! difference panics; a step over the end of a buffer ends the process.
+//! reachable, one way of asking with the other, and every buffer with what it has to hold. (Of the type
+//! words after a type only its text is known, the answer line.) The first difference panics; a step
+//! over the end of a buffer ends the process.
 
 #[cfg(feature = "libfuzzer")]
 mod gentle;
@@ -17,6 +18,8 @@ use index_file::records::Index;
 use index_file::words::{WORDS, with_plain_empty_lists, words};
 use roognaps::AnswerLine;
 use roognaps::raw::{self, ANSWER_BYTES, Buffers, Entry, PLACES, Place, RECORD_WORDS, TYPE_WORDS};
+
+const _: () = assert!(WORDS == RECORD_WORDS, "both sides count as many words");
 
 /// What the buffers hold before a call.
 const WORD: u32 = 0xA5A5_A5A5;
@@ -67,6 +70,8 @@ pub struct Target {
     types: Guarded<u32>,
     places: Guarded<Place>,
     out: Guarded<u8>,
+    /// The words that loading alone leaves where the buffer was filled before, if the file is accepted.
+    loaded: Vec<u32>,
     pub counts: Counts,
 }
 
@@ -78,6 +83,7 @@ impl Default for Target {
             types: Guarded::new(TYPE_WORDS),
             places: Guarded::new(PLACES),
             out: Guarded::new(ANSWER_BYTES),
+            loaded: Vec::new(),
             counts: Counts::default(),
         }
     }
@@ -147,16 +153,7 @@ impl Target {
         let lent = self.file.last(length);
         let records = self.records.all();
         records.fill(0);
-        // SAFETY: slices with their lengths, which don't overlap.
-        let loaded = |records: &mut [u32]| unsafe {
-            raw::roognaps_load(
-                lent.as_ptr(),
-                lent.len(),
-                records.as_mut_ptr(),
-                records.len(),
-            )
-        };
-        let verdict = loaded(records);
+        let verdict = raw::load(lent, records);
         match expected {
             Ok(index) => {
                 assert_eq!(verdict, 0, "loading");
@@ -165,16 +162,21 @@ impl Target {
             }
             Err(refusal) => {
                 assert_eq!(verdict, packed(*refusal), "loading");
-                assert!(records.iter().all(|word| *word == 0), "records");
-                records.fill(WORD);
-                assert_eq!(loaded(records), verdict, "loading again");
-                assert!(records.iter().all(|word| *word == 0), "records");
+                assert!(all_are(records, 0), "records");
             }
         }
         records.fill(WORD);
-        assert_eq!(loaded(&mut records[1..]), 1 << 32, "a short buffer");
-        assert!(records.iter().all(|word| *word == WORD), "records");
-        assert_eq!(WORDS, RECORD_WORDS);
+        assert_eq!(raw::load(lent, records), verdict, "loading again");
+        assert!(expected.is_ok() || all_are(records, 0), "records");
+        self.loaded.clear();
+        self.loaded.extend_from_slice(records);
+        records.fill(WORD);
+        assert_eq!(
+            raw::load(lent, &mut records[1..]),
+            1 << 32,
+            "a short buffer"
+        );
+        assert!(all_are(records, WORD), "records");
     }
 
     fn call(&mut self, entry: Entry, length: usize, number: u32) -> u64 {
@@ -189,11 +191,20 @@ impl Target {
     }
 
     fn assert_zero_records_and_the_rest_as_it_was(&mut self) {
-        assert!(self.records.all().iter().all(|word| *word == 0), "records");
-        assert!(self.types.all().iter().all(|word| *word == WORD), "types");
-        let places = self.places.all();
-        assert!(places.iter().all(|place| *place == [WORD; 5]), "places");
-        assert!(self.out.all().iter().all(|byte| *byte == BYTE), "out");
+        assert!(all_are(self.records.all(), 0), "records");
+        self.assert_types_and_places(WORD);
+        assert!(all_are(self.out.all(), BYTE), "out");
+    }
+
+    fn assert_types_and_places(&mut self, word: u32) {
+        assert!(all_are(self.types.all(), word), "types");
+        assert!(all_are(self.places.all(), [word; 5]), "places");
+    }
+
+    /// Answering leaves the words that loading left, also those that no record uses. (Promised is that
+    /// they hold the same index.)
+    fn assert_loaded_records(&mut self) {
+        assert!(self.records.all() == self.loaded, "records");
     }
 
     fn refused_file(&mut self, length: usize, refusal: Refusal) {
@@ -226,10 +237,24 @@ impl Target {
         for number in (0..count).step_by(step) {
             self.one_question(length, number, &lines[number]);
         }
+        self.behind_the_last(length, count as u32);
+    }
+
+    /// Questions that aren't there: none is left at the count, and above it is refused.
+    fn behind_the_last(&mut self, length: usize, count: u32) {
         self.fill();
-        let lacking = self.call(Entry::Answer, length, count as u32);
+        let lacking = self.call(Entry::Answer, length, count);
         assert_eq!(lacking, 5 << 32, "a question that isn't there");
         self.assert_zero_records_and_the_rest_as_it_was();
+        self.fill();
+        let lacking = self.call(Entry::AnswerFrom, length, count + 1);
+        assert_eq!(lacking, (1 << 63) + (5 << 32), "from too far");
+        self.assert_zero_records_and_the_rest_as_it_was();
+        self.fill();
+        assert_eq!(self.call(Entry::AnswerFrom, length, count), 0, "no line");
+        self.assert_loaded_records();
+        self.assert_types_and_places(WORD);
+        assert!(all_are(self.out.all(), BYTE), "out");
     }
 
     /// The lines as `answer_from` gives them, call by call.
@@ -243,13 +268,17 @@ impl Target {
             let (text, behind) = self.out.all().split_at(bytes);
             let text = std::str::from_utf8(text).expect("text");
             assert!(text.is_empty() || text.ends_with('\n'), "a last line");
-            assert!(behind.iter().all(|byte| *byte == BYTE), "behind the lines");
+            assert!(all_are(behind, BYTE), "behind the lines");
             let before = lines.len();
             lines.extend(text.lines().map(str::to_string));
+            self.assert_loaded_records();
             if before < count {
-                let places = self.places.all();
-                assert!(places.iter().all(|place| *place == [0; 5]), "places");
                 assert!(lines.len() > before, "no line");
+                assert!(all_are(self.places.all(), [0; 5]), "places");
+                let is_refused = lines.last().is_some_and(|line| is_refused(line));
+                if next != 0 || is_refused {
+                    assert!(all_are(self.types.all(), 0), "types");
+                }
             }
             match next {
                 0 => return lines,
@@ -263,19 +292,28 @@ impl Target {
         let given = self.call(Entry::Answer, length, number as u32);
         let bytes = given as u32 as usize;
         let (text, behind) = self.out.all().split_at(bytes);
-        assert!(behind.iter().all(|byte| *byte == BYTE), "behind the line");
+        assert!(all_are(behind, BYTE), "behind the line");
         match given >> 32 {
             0 => assert_eq!(text, format!("{line}\n").as_bytes(), "answer"),
             refusal => {
                 assert_eq!(bytes, 0, "a question's refusal has no line");
                 let end = format!("\trefused\t{refusal}");
                 assert!(line.ends_with(&end), "{refusal} instead of {line:?}");
-                assert!(self.types.all().iter().all(|word| *word == 0), "types");
+                assert!(all_are(self.types.all(), 0), "types");
             }
         }
-        let places = self.places.all();
-        assert!(places.iter().all(|place| *place == [0; 5]), "places");
+        self.assert_loaded_records();
+        assert!(all_are(self.places.all(), [0; 5]), "places");
     }
+}
+
+fn all_are<T: PartialEq>(elements: &[T], owed: T) -> bool {
+    elements.iter().all(|element| *element == owed)
+}
+
+/// Whether an answer line is that of a refused question.
+fn is_refused(line: &str) -> bool {
+    line.split('\t').nth(3) == Some("refused")
 }
 
 fn packed(refusal: Refusal) -> u64 {

@@ -19,7 +19,11 @@ fn main() -> ExitCode {
     match (&words[..], &numbers[..]) {
         ([_, _], [count, seed]) => generated(*count, *seed),
         ([path], []) if path != "--help" => match std::fs::read(path) {
-            Ok(file) => on_large_stack(|| Target::default().one_input(&file)),
+            Ok(file) => on_large_stack(|| {
+                let mut target = Target::default();
+                target.one_input(&file);
+                println!("{}", target.counts);
+            }),
             Err(error) => {
                 eprintln!("{path}: {error}");
                 return ExitCode::from(2);
