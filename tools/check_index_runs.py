@@ -1,10 +1,10 @@
 #!/usr/bin/env python3
 """Runs check_index on every vector of rust/vectors and on the files of tools/check_index_cases.txt, and compares what it prints.
 
-usage: tools/check_index_runs.py [--may-skip] [PROGRAM]
+usage: tools/check_index_runs.py [PROGRAM]
 
 PROGRAM is target/bin/check_index if not said otherwise. A malformed vector has its line stored; of an accepted one the records are counted
-here, line by line. With --may-skip a program that isn't there is only reported. Exit status 0: all equal; 1: a difference, or no program.
+here, line by line. Exit status 0: all equal; 1: a difference, or no program.
 """
 
 import os
@@ -58,12 +58,9 @@ def runs():
 
 def main():
     arguments = sys.argv[1:]
-    may_skip = "--may-skip" in arguments
-    arguments = [argument for argument in arguments if argument != "--may-skip"]
+    if len(arguments) > 1:
+        sys.exit(__doc__)
     program = arguments[0] if arguments else os.path.join(ROOT, "target", "bin", "check_index")
-    if may_skip and not os.access(program, os.X_OK):
-        print(f"check_index runs: {program} isn't built")
-        return 0
     return compare("check_index runs", [program], runs())
 
 

@@ -1,11 +1,12 @@
 #!/usr/bin/env python3
-"""Builds the static library and runs what stands on it: the example in C, the vectors in C (under valgrind where it is at hand), and the Rust
-crate's tests.
+"""Builds the static library and runs what stands on it: the example in C, the vectors in C (under valgrind where it is at hand), the Rust
+crate's tests, documentation and examples, and the fuzz target.
 
 usage: tools/library_runs.py
 
 The library is target/staticlib/libexport.a, which `rt staticlib export` makes; where EXPORT_LIB names a folder (absolute), the one in it.
-What the machine lacks (rt, cc, valgrind, cargo) is left out with one line. Exit status 0: everything as owed; 1: a difference or a failure.
+What the machine lacks (rt, objdump, cc, valgrind, cargo, the original sources) is left out with one line. Exit status 0: everything as owed;
+1: a difference or a failure.
 """
 
 import os
@@ -20,6 +21,9 @@ MADE = os.path.join(ROOT, "target", "library_runs")
 WARNINGS = ["-Wall", "-Wextra", "-Werror", "-pedantic", "-std=c11", "-g"]
 # Of the malformed vectors one of so many is run as a process of its own; all are replayed in one.
 MALFORMED_STEP = 10
+# A frame that is larger goes down page by page and touches each, so that too little stack meets the guard page.
+PAGE = 4096
+TOUCHED = re.compile(r"movq +\$0x0,\(%rsp\)$")
 
 
 def say(line):
@@ -44,6 +48,40 @@ def library():
     return folder if os.path.exists(os.path.join(folder, "libexport.a")) else None
 
 
+def steps_down(listing):
+    """(function, bytes, next instruction) wherever the listing of objdump lowers the stack by a number."""
+    function, lowered = None, None
+    for line in listing.splitlines():
+        head = re.match(r"[0-9a-f]+ <(.*)>:$", line)
+        if head:
+            function, lowered = head.group(1), None
+        parts = line.split("\t")
+        if len(parts) < 3:
+            continue
+        if lowered is not None:
+            yield function, lowered, parts[2].strip()
+        found = re.match(r"sub +\$0x([0-9a-f]+),%rsp", parts[2])
+        lowered = int(found.group(1), 16) if found else None
+
+
+def large_frames(folder):
+    """The library touches each page of a frame: what makes too little stack an end of the process and nothing worse."""
+    if not shutil.which("objdump"):
+        say("objdump isn't at hand; the frames aren't looked at")
+        return True
+    listing = run(["objdump", "-d", os.path.join(folder, "libexport.a")], cwd=ROOT).stdout
+    if "<roognaps_answer>:" not in listing:
+        say("objdump doesn't show the library's functions")
+        return False
+    pages = [(function, size, then) for function, size, then in steps_down(listing) if size >= PAGE]
+    wrong = [f"{function} goes down {size} bytes, then {then}" for function, size, then in pages if size > PAGE or not TOUCHED.match(then)]
+    for said in wrong:
+        print(said)
+    functions = len({function for function, _, _ in pages})
+    say(f"{functions} functions have frames above {PAGE} bytes; {'not each' if wrong else 'each'} page is touched")
+    return not wrong
+
+
 def compiled(source, name, folder):
     """The path of the program, or none and what the compiler said."""
     program = os.path.join(MADE, name)
@@ -65,8 +103,7 @@ def sample():
 
 def files():
     """(name, index file, lines owed) of each run of the example."""
-    if os.path.exists(os.path.join(ROOT, "crates", "resolve", "stdout")):
-        yield sample()
+    yield sample()
     for name in VECTOR_FILES:
         step = MALFORMED_STEP if name.startswith("malformed") else 1
         yield from list(vectors(name))[::step]
@@ -84,7 +121,19 @@ def example_in_c(folder):
             differences += 1
             print(f"{name}: {done.stdout!r} (status {done.returncode}) instead of {owed!r}")
     say(f"examples/c/answer.c prints the lines owed for {count - differences} of {count} files")
-    return differences == 0
+    return differences == 0 and tells_what_it_cannot_write(program)
+
+
+def tells_what_it_cannot_write(program):
+    """The example ends with 2 where the device is full."""
+    if not os.path.exists("/dev/full"):
+        return True
+    _, file, _ = sample()
+    with open("/dev/full", "wb") as full:
+        done = subprocess.run([program], input=file, stdout=full, stderr=subprocess.DEVNULL, check=False)
+    if done.returncode != 2:
+        say(f"examples/c/answer.c ends with {done.returncode} where it can't write")
+    return done.returncode == 2
 
 
 def vectors_in_c(folder):
@@ -145,27 +194,90 @@ def wrong_library():
     return True
 
 
-def rust_crate():
+def shown(words):
+    """What docs/USING.md prints below the command with these words."""
+    with open(os.path.join(ROOT, "docs", "USING.md"), encoding="utf-8") as document:
+        lines = document.read().splitlines()
+    at = [number for number, line in enumerate(lines) if line.startswith("    $ ") and words in line]
+    printed = ""
+    for line in lines[at[0] + 1 :] if at else []:
+        if not line.startswith("    ") or line.startswith("    $ "):
+            break
+        printed += line[4:].replace("→", "\t") + "\n"
+    return printed
+
+
+def shown_source():
+    """The program that docs/USING.md begins with: the indented lines below the one that names its file."""
+    with open(os.path.join(ROOT, "docs", "USING.md"), encoding="utf-8") as document:
+        found = re.search(r"`target/total\.cm`:\n\n((?:    .*\n|\n)+)", document.read())
+    return "".join(line[4:] + "\n" for line in found.group(1).rstrip().splitlines()) if found else ""
+
+
+def example(name, *words):
+    """The crate's example prints what docs/USING.md shows."""
+    owed = shown(f"--example {name}")
+    printed = cargo(f"the example `{name}`", "run", "--offline", "--quiet", "-p", "roognaps", *words)
+    if printed is None:
+        return False
+    if printed != owed or not owed:
+        print(f"{printed!r}\ninstead of\n{owed!r}")
+        say(f"the example `{name}` doesn't print what docs/USING.md shows")
+        return False
+    say(f"the example `{name}` prints what docs/USING.md shows")
+    return True
+
+
+def originals_are_reachable():
+    """Whether the workspace is built with the original sources."""
+    return run(["cargo", "run", "--offline", "--quiet", "--", "self-check", "0", "0"], cwd=os.path.join(ROOT, "rust")).returncode == 0
+
+
+def with_originals():
+    """What the crate has with the feature `export`: documentation, and the example `types`."""
+    if not originals_are_reachable():
+        say("the original sources aren't reachable; the crate's module `export` is left out")
+        return True
+    with open(os.path.join(ROOT, "target", "total.cm"), "w", encoding="ascii") as source:
+        source.write(shown_source())
+    return documented("--features", "export") and example("types", "--features", "export", "--example", "types", "--", "../target/total.cm")
+
+
+def documented(*features):
+    words = ["doc", "--offline", "-p", "roognaps", "--no-deps", *features]
+    return cargo("the crate's documentation", *words, RUSTDOCFLAGS="-D warnings") is not None
+
+
+def linted():
+    if not at_hand("cargo", "clippy"):
+        say("cargo clippy isn't at hand; the lint is left out")
+        return True
+    packages = ["-p", "roognaps", "-p", "fuzz", "-p", "bench", "--features", "roognaps/export"]
+    return cargo("the lint", "clippy", "--offline", *packages, "--all-targets", "--", "-D", "warnings") is not None
+
+
+def tests():
     tested = cargo("the crate's tests", "test", "--offline", "-p", "roognaps", "--features", "export")
     if tested is None:
         return False
-    passed = sum(int(count) for count in re.findall(r"^test result: ok\. (\d+) passed", tested, re.MULTILINE))
-    say(f"rust/roognaps: {passed} tests passed")
-    if cargo("the crate's documentation", "doc", "--offline", "-p", "roognaps", "--no-deps", RUSTDOCFLAGS="-D warnings") is None:
-        return False
-    if at_hand("cargo", "clippy"):
-        packages = ["-p", "roognaps", "-p", "fuzz", "--features", "roognaps/export"]
-        if cargo("the lint", "clippy", "--offline", *packages, "--all-targets", "--", "-D", "warnings") is None:
-            return False
-    moved = cargo("the example `moved`", "run", "--offline", "--quiet", "-p", "roognaps", "--example", "moved")
-    if moved is None or moved.count("<-- not what the function returns") != 2:
-        say("the example `moved` doesn't show the two wrong numbers")
-        return False
+    passed = [int(count) for count in re.findall(r"^test result: ok\. (\d+) passed", tested, re.MULTILINE)]
+    say(f"rust/roognaps: {sum(passed)} tests passed")
+    if sum(passed) == 0:
+        say("no test was run")
+    return sum(passed) > 0
+
+
+def fuzz_target():
     fuzzed = cargo("the fuzz target", "run", "--offline", "--quiet", "-p", "fuzz", "--", "2000", "1")
     if fuzzed is None:
         return False
-    say(f"rust/fuzz: {fuzzed.strip()}; no difference")
-    return True
+    counts = re.search(r"^2000 inputs: .*$", fuzzed, re.MULTILINE)
+    say(f"rust/fuzz: {counts.group()}; no difference" if counts else "rust/fuzz prints no counts")
+    return counts is not None
+
+
+def rust_crate():
+    return tests() and documented() and linted() and example("moved", "--example", "moved") and with_originals() and fuzz_target()
 
 
 def main():
@@ -174,7 +286,7 @@ def main():
     if folder is None:
         say("the static library isn't there, and rt isn't at hand to make it; left out")
         return 0
-    well = True
+    well = large_frames(folder)
     if shutil.which("cc"):
         well = example_in_c(folder) and well
         well = vectors_in_c(folder) and well

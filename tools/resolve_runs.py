@@ -253,6 +253,8 @@ def write(folder):
 def main():
     arguments = sys.argv[1:]
     if arguments[:1] == ["--write"]:
+        if len(arguments) != 2:
+            sys.exit(__doc__)
         write(arguments[1])
         return 0
     return compare("resolve runs", arguments or [os.path.join(ROOT, "target", "bin", "resolve")], runs())

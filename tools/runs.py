@@ -96,5 +96,5 @@ def compare(title, command, runs, jobs=2):
     print(f"{title}: {len(runs) - len(found)} of {len(runs)} files give what is owed")
     missed = unnoticed(command, next(run for run in runs if run.owed))
     for what in missed:
-        print(f"{title}: a run isn't reported where {what} is all that is owed or given")
+        print(f"{title}: spoiling the run ({what}) isn't noticed")
     return 1 if found or missed else 0

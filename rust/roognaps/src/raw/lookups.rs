@@ -13,7 +13,8 @@ pub struct Name {
 ///
 /// The lookups give what those of the original's `semantic_index.rs` give, for a module number below the
 /// number of modules; for another one, what the words there hold. Scopes, expressions and results are
-/// numbers in the module. They read nothing outside the two slices, whatever these hold.
+/// numbers in the module. With other words than those of an accepted file they read nothing outside the
+/// two slices either, and end, but may take minutes.
 ///
 /// ```
 /// use roognaps::raw::{self, Loaded, Name, RECORD_WORDS};
