@@ -67,15 +67,15 @@ impl fmt::Display for ExportError {
         match self {
             Self::SameModule { name } => write!(f, "two modules are named {name:?}"),
             Self::Name {
-                module: Some(module),
+                module,
                 text,
                 fault,
-            } => write!(
-                f,
-                "module {module}: the name {text:?} can't be written: {fault}"
-            ),
-            Self::Name { text, fault, .. } => {
-                write!(f, "the module name {text:?} can't be written: {fault}")
+            } => {
+                match module {
+                    Some(module) => write!(f, "module {module}: the name")?,
+                    None => write!(f, "the module name")?,
+                }
+                write!(f, " {text:?} can't be written: {fault}")
             }
             Self::Position { module, position } => {
                 write!(f, "module {module}: position {position} isn't below 2^32")

@@ -15,8 +15,8 @@ use crate::{AnswerLine, Error, Resolver, on_large_stack};
 pub use ::export::sources::{Message, Source, SourceError};
 pub use ::export::{ExportError, ModuleIndex, NameFault};
 pub use index_file::records::Index;
-/// A question as an [`Index`] has it, a Q line: with the context or the scope that it is asked in. What an
-/// answer line repeats of it is a [`Question`](crate::Question).
+/// A question as an [`Index`] has it, a Q line: with the context or the scope that it is asked in.
+/// What an answer line repeats of it is a [`Question`](crate::Question).
 pub use index_file::records::Question as QuestionRecord;
 
 /// Why there are no answers. Its text is that of the error inside, which therefore isn't given a second
