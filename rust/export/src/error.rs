@@ -94,13 +94,10 @@ impl fmt::Display for ExportError {
                 let lines: Vec<String> = passed.iter().map(PassedLimit::to_string).collect();
                 write!(f, "{}", lines.join("\n"))
             }
-            Self::Refused(refusal) => {
-                let Refusal { number, line } = refusal;
-                write!(
-                    f,
-                    "the written index is refused with {number} at line {line}"
-                )
-            }
+            Self::Refused(Refusal { number, line }) => write!(
+                f,
+                "the written index is refused with {number} at line {line}"
+            ),
             Self::NotAsWritten => write!(
                 f,
                 "the written index is read as another one: a name in it has no form in an index file"

@@ -107,8 +107,9 @@ pub fn enter(entry: Entry, file: &[u8], number: u32, buffers: Buffers<'_>) -> u6
         Entry::AnswerFrom => roognaps_answer_from,
     };
     // SAFETY: all are slices with their lengths, and none overlaps another. Too little stack is no
-    // danger to memory: the library's frames that are larger than a page touch each page in turn, so
-    // that the guard page below the stack ends the process, as in any deep recursion in Rust.
+    // danger to memory: the library's frames that are larger than a page touch each page in turn
+    // (tools/library_runs.py looks at them), so that the guard page below the stack ends the process,
+    // as in any deep recursion in Rust.
     unsafe {
         entry(
             file.as_ptr(),
