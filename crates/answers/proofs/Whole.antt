@@ -19,7 +19,7 @@ use Rattle.resolution.specs.Resolve.{Reply, reply-from, answer, refusal-line, p
 use Rattle.resolution.proofs.LineFits.{line-fits}
 use Rattle.resolution.proofs.Secrecy.{question-answered, bodies-are-hidden}
 use Rattle.answers.specs.Meaning.{put-first, answer-of, answer-out, Lines, fill, lines-in, lines-from, answers-of, lines-out}
-use Rattle.answers.specs.Whole.{LineOr, AnswersTheLine, lines-between, LinesOf, AnswersTheLines, Calls, CallsResolve, AnswersHideBodies, AnswersDemandThree}
+use Rattle.answers.specs.Whole.{LineOr, AnswersTheLine, lines-between, LinesOf, AnswersTheLines, Calls, CallsResolve, CallsEnd, AnswersHideBodies, AnswersDemandThree}
 use Rattle.answers.specs.declared.LineAnswer.{LineAnswer}
 use Rattle.answers.specs.declared.LinesAnswer.{LinesAnswer}
 use Rattle.answers.proofs.Filling.{drop-here, fill-on}
@@ -223,6 +223,31 @@ calls-resolve file text calls = at (load file) refl
     at : (l : Loading) → load file ≡ l → text ≡ printed l
     at (Loading.accepted index) e = calls-between file index e (omega arith) calls ∙ all-lines index
     at (Loading.refused refusal line) e = calls-refused file refusal line e calls
+
+-- some text that the calls from a question on give
+record Ended (file : Text) (from : ℕ) : Type 0 where
+  text : Text
+  calls : Calls file from text
+
+module _ (file : Text) (index : Index) (loaded : load file ≡ accepted index) where
+  -- each call but the last answers a question, so there are no more calls than questions and one
+  ended : (fuel from : ℕ) → from ≤ length (index .questions) → length (index .questions) < from + fuel → Ended file from
+  ended zero from below enough = absurd (omega (arith, below, enough))
+  ended (suc fuel) from below enough = at (lines-from file from) refl (ended fuel)
+    where
+      at : (lines : Lines) → lines-from file from ≡ lines → ((next : ℕ) → next ≤ length (index .questions) → length (index .questions) < next + fuel → Ended file next) → Ended file from
+      at (Lines.end text) e inner = record { text = text; calls = Calls.last e }
+      at (Lines.more next text) e inner =
+          let rest = inner next (omega (arith, not-all file index loaded from below next text e)) (omega (arith, enough, later file index loaded from below next text e)) in
+          record { text = text ++ rest .text; calls = Calls.again e (rest .calls) }
+      at (Lines.file-refused refusal line) e inner = absurd (no-file-refused file index loaded from below refusal line e)
+
+pub calls-end : CallsEnd
+calls-end file = let all = at (load file) refl in subst (Calls file 0) (calls-resolve file (all .text) (all .calls)) (all .calls)
+  where
+    at : (l : Loading) → load file ≡ l → Ended file 0
+    at (Loading.accepted index) loaded = ended file index loaded (suc (length (index .questions))) 0 (omega arith) (omega arith)
+    at (Loading.refused refusal line) e = record { text = refusal-line refusal line; calls = Calls.refused (refused-lines file refusal line e 0) }
 
 -- ------------------------------------------------------------------ demand 3
 

@@ -26,7 +26,7 @@ answer-of (Reply.typed line) = LineAnswer.Line (length line)
 answer-of (Reply.question-refused number line) = LineAnswer.Refused number
 answer-of (Reply.file-refused number at-line) = LineAnswer.FileRefused number at-line
 
--- "LineAnswer bytes behind the line stay"; after a refusal "the answer buffer is unchanged"
+-- "Answer bytes behind the line stay"; after a refusal "the answer buffer is unchanged"
 unfoldable pub answer-out : Reply → Text → Text
 answer-out (Reply.typed line) out = put-first line out
 answer-out (Reply.question-refused number line) out = out

@@ -63,6 +63,10 @@ pub data Calls (file : Text) : ℕ → Text → Type 0 where
 abbrev pub CallsResolve : Type 0
 CallsResolve = (file text : Text) → Calls file 0 text → text ≡ resolve file
 
+-- and they come to an end, whatever the file is
+abbrev pub CallsEnd : Type 0
+CallsEnd = (file : Text) → Calls file 0 (resolve file)
+
 -- ------------------------------------------------------------------ demand 3
 
 -- two calls answer alike, and write the same line where they write one

@@ -49,12 +49,7 @@ pub enum Step {
     NoRoom,
 }
 
-const RECORD_WORDS: usize = 16384;
-
-const TYPE_WORDS: usize = 8192;
-
-const PLACES: usize = 256;
-
+// The lengths that the answer buffer and, in their crates, the other buffers must have.
 const ANSWER_BYTES: usize = 4160;
 
 // ------------------------------------------------------------------ lines
@@ -231,13 +226,13 @@ fn answer_lines(
 fn are_long(records: usize, types: usize, places: usize, bytes: usize) -> bool
     ensures { λ r. ⌜ LongIs records types places bytes r ⌝ }
 {
-    if records < RECORD_WORDS {
+    if records < loader::RECORD_WORDS {
         return false;
     }
-    if types < TYPE_WORDS {
+    if types < type_table::WORDS {
         return false;
     }
-    if places < PLACES {
+    if places < demands::PLACES {
         return false;
     }
     if bytes < ANSWER_BYTES {
@@ -319,9 +314,9 @@ pub fn answer(
     answer_exact(
         file,
         number,
-        &mut records[..RECORD_WORDS],
-        &mut types[..TYPE_WORDS],
-        &mut demands[..PLACES],
+        &mut records[..loader::RECORD_WORDS],
+        &mut types[..type_table::WORDS],
+        &mut demands[..demands::PLACES],
         out,
     )
 }
@@ -372,9 +367,9 @@ pub fn answer_from(
     lines_exact(
         file,
         from,
-        &mut records[..RECORD_WORDS],
-        &mut types[..TYPE_WORDS],
-        &mut demands[..PLACES],
+        &mut records[..loader::RECORD_WORDS],
+        &mut types[..type_table::WORDS],
+        &mut demands[..demands::PLACES],
         &mut out[..ANSWER_BYTES],
     )
 }

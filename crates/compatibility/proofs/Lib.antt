@@ -1,7 +1,6 @@
--- Laws of two types compared, of the bits of a word, of the store of pairs, and of the scan of the operator rows; and what callers may cite. Assumes nothing.
+-- Laws of two types compared, of the bits of a word, of the store of pairs and of the scan of the operator rows. Assumes nothing.
 mod ByKind
 mod Compared
 mod Bits
 mod Store
 mod Scan
-pub mod Laws

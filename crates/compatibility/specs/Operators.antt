@@ -1,6 +1,5 @@
 -- The rows of the operators in the numbers of the code. Definitions only; assumes nothing.
 use Prim.Native.Nat.{ℕ}
-use mathlib.Core.List.{List, [], _∷_}
 use lib.ListN.{getD}
 use Rattle.model.specs.Records.{UnaryOp, BinaryOp}
 use Rattle.resolution.specs.Compatible.{UnaryOpSignature, OperatorSignature, unary-number, binary-number, unary-op-signatures, binary-op-signatures}

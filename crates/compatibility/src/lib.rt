@@ -6,7 +6,7 @@ use type_table::ERROR;
 use type_table::FELT;
 use type_table::U32;
 ghost use mathlib.Core.Path.{_≡_};
-ghost use Prim.Native.Nat.{ℕ, _*_, _<_};
+ghost use Prim.Native.Nat.{_*_, _<_};
 ghost use mathlib.Core.Bool.{_&&_, _||_};
 ghost use lib.Dec.{eqb};
 ghost use lib.ListN.{length};
@@ -23,10 +23,10 @@ ghost use Rattle.compatibility.specs.Operators.{unary-row-at, binary-row
 fn is_error_or_unknown(kind: u32) -> bool
     ensures { λ r. ⌜ r ≡ (eqb kind 4 || eqb kind 3) ⌝ }
 {
-    if kind == 4 {
+    if kind == type_table::KIND_ERROR {
         return true;
     }
-    kind == 3
+    kind == type_table::KIND_UNKNOWN
 }
 
 // Whether a place of the store is marked. A word holds the marks of 32 places, a bit for each.
@@ -91,16 +91,16 @@ fn compatible_rows(file: &[u8], types: &[u32], seen: &mut [u32], actual: u32, ex
         return false;
     }
     let kind = a.kind;
-    if kind == 6 {
+    if kind == type_table::KIND_POINTER {
         return compatible(file, types, seen, a.element, e.element);
     }
-    if kind == 7 {
+    if kind == type_table::KIND_ARRAY {
         if a.size != e.size {
             return false;
         }
         return compatible(file, types, seen, a.element, e.element);
     }
-    if kind != 5 {
+    if kind != type_table::KIND_TUPLE {
         return false;
     }
     let left = type_table::items_of(types, actual);
@@ -178,10 +178,10 @@ pub fn are_types_compatible(file: &[u8], types: &[u32], actual: u32, expected: u
     if a != e {
         return false;
     }
-    if a < 5 {
+    if a < type_table::KIND_TUPLE {
         return false;
     }
-    if 7 < a {
+    if type_table::KIND_ARRAY < a {
         return false;
     }
     compare_with_store(file, types, actual, expected)
@@ -354,6 +354,7 @@ pub fn unary_result(file: &[u8], types: &[u32], op: UnaryOp, operand: u32) -> u3
     ERROR
 }
 
+// The type that the first row of the operator gives whose operands fit; error where none does.
 pub fn binary_result(file: &[u8], types: &[u32], op: BinaryOp, left: u32, right: u32) -> u32
     requires { ⌜ Sound (now file) (now types) ⌝ }
     requires { ⌜ TableOk (table-of (now file) (now types)) ⌝ }

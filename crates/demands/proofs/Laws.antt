@@ -5,7 +5,7 @@ use Prim.Native.Nat.{ℕ, zero, suc, _+_, _-_, _≤_, _<_}
 use native.Mathlib.Numerals.{add-one}
 use native.Mathlib.Omega.{arith}
 use mathlib.Core.List.{List, [], _∷_}
-use lib.ListN.{length, drop}
+use lib.ListN.{length}
 use lib.Dec.{ltb}
 use borrow.Author.Tests.{ltb-false}
 use Rattle.model.specs.Records.{Index}
@@ -67,9 +67,6 @@ module _ {d : Demand} {depth : ℕ} {places places′ : List (List ℕ)} {r : En
   pub next-below : {n : ℕ} → r ≡ At n → n ≤ 256
   next-below {n} h = let at = o .next n h in omega (arith, at .0, at .1)
 
-  pub next-falls : {n : ℕ} → r ≡ At n → 256 - n < 256 - depth
-  next-falls {n} h = let at = o .next n h in omega (arith, at .0, at .1)
-
 -- ------------------------------------------------------------------ going back
 
 open-tail : (n : ℕ) (l l′ : List (List ℕ)) → open-demands (suc n) l ≡ open-demands (suc n) l′ → open-demands n l ≡ open-demands n l′
@@ -95,20 +92,5 @@ length-by zero l = refl
 length-by (suc n) [] = refl
 length-by (suc n) (x ∷ l) = ap suc (length-by n l)
 
-rest-by : (n : ℕ) (l : List (List ℕ)) → drop n (cleared n l) ≡ drop n l
-unfolding cleared
-rest-by zero l = refl
-rest-by (suc n) [] = refl
-rest-by (suc n) (x ∷ l) = rest-by n l
-
 pub cleared-length : (l : List (List ℕ)) → length (cleared-places l) ≡ length l
 cleared-length l = length-by 256 l
-
--- all past the 256th place stays
-pub cleared-rest : (l : List (List ℕ)) → drop 256 (cleared-places l) ≡ drop 256 l
-cleared-rest l = rest-by 256 l
-
--- nothing is open at the start
-pub none-open : (l : List (List ℕ)) → open-demands 0 l ≡ []
-unfolding open-demands
-none-open l = refl

@@ -3,7 +3,7 @@ use records::DefinitionIndex;
 use records::ExpressionId;
 use records::FileScopeId;
 ghost use mathlib.Core.Path.{_≡_};
-ghost use Prim.Native.Nat.{ℕ, _≤_};
+ghost use Prim.Native.Nat.{_≤_};
 ghost use lib.ListN.{length, set};
 ghost use Rattle.model.specs.Common.{eq-numbers};
 ghost use Rattle.resolution.specs.Programs.{Demand};
@@ -12,15 +12,18 @@ ghost use Rattle.demands.specs.Meaning.{no-demand, place-of, place-at, c
 ghost use Rattle.demands.specs.Meaning.{cleared-places, clipped, has-more, more-of};
 ghost use Rattle.demands.specs.Promises.{Opens};
 
-pub const KIND_TYPE: u32 = 0;
+// As many demands may be open at once.
+pub const PLACES: usize = 256;
 
-pub const KIND_DEFINITION: u32 = 1;
+const KIND_TYPE: u32 = 0;
 
-pub const KIND_EXPRESSION: u32 = 2;
+const KIND_DEFINITION: u32 = 1;
 
-pub const KIND_STRUCT: u32 = 3;
+const KIND_EXPRESSION: u32 = 2;
 
-pub const KIND_SIGNATURE: u32 = 4;
+const KIND_STRUCT: u32 = 3;
+
+const KIND_SIGNATURE: u32 = 4;
 
 // A demand with its kind, its module, its record, whether it has a context, and its scope or context.
 pub struct OpenDemand {
@@ -55,7 +58,7 @@ fn no_demand() -> OpenDemand
 }
 
 // The demand at a place; past the end, one of zeros.
-pub fn demand_at(demands: &[Place], i: usize) -> OpenDemand
+fn demand_at(demands: &[Place], i: usize) -> OpenDemand
     ensures { λ r. ⌜ r ≡ place-at (now (demands .entry)) i ⌝ }
 {
     if i < demands.len() {
@@ -73,7 +76,7 @@ pub fn demand_at(demands: &[Place], i: usize) -> OpenDemand
 }
 
 // Writes a demand at a place; past the end, nothing.
-pub fn put_demand(demands: &mut [Place], i: usize, d: OpenDemand)
+fn put_demand(demands: &mut [Place], i: usize, d: OpenDemand)
     ensures { λ _. ⌜ now (demands .exit) ≡ set (now (demands .entry)) i (place-of d) ⌝ }
 {
     if i < demands.len() {
@@ -86,8 +89,8 @@ pub fn put_demand(demands: &mut [Place], i: usize, d: OpenDemand)
 pub fn clear(demands: &mut [Place])
     ensures { λ _. ⌜ now (demands .exit) ≡ cleared-places (now (demands .entry)) ⌝ }
 {
-    let mut i = 0;
-    while i < 256 {
+    let mut i: usize = 0;
+    while i < PLACES {
         put_demand(demands, i, no_demand());
         i += 1;
     }
@@ -136,7 +139,7 @@ fn same_more(a: OpenDemand, b: OpenDemand) -> bool
 }
 
 // Whether two demands are the same. What doesn't count for their kind isn't compared.
-pub fn same_demand(a: OpenDemand, b: OpenDemand) -> bool
+fn same_demand(a: OpenDemand, b: OpenDemand) -> bool
     ensures { λ r. ⌜ r ≡ eq-demand (demand-of a) (demand-of b) ⌝ }
 {
     if kind_of(a) != kind_of(b) {
@@ -152,7 +155,7 @@ pub fn same_demand(a: OpenDemand, b: OpenDemand) -> bool
 }
 
 // Whether the demand stands among the first `depth` open ones.
-pub fn is_open(demands: &[Place], depth: usize, d: OpenDemand) -> bool
+fn is_open(demands: &[Place], depth: usize, d: OpenDemand) -> bool
     ensures { λ r. ⌜ r ≡ is-open (open-demands depth (now (demands .entry))) (demand-of d) ⌝ }
 {
     let mut i = 0;
@@ -168,14 +171,14 @@ pub fn is_open(demands: &[Place], depth: usize, d: OpenDemand) -> bool
 // ------------------------------------------------------------------ entering
 
 // Opens a demand at `depth`: refused with 7 where it is open already, and then with 8 where no place is free.
-pub fn enter(demands: &mut [Place], depth: usize, d: OpenDemand) -> Entered
+fn enter(demands: &mut [Place], depth: usize, d: OpenDemand) -> Entered
     requires { ⌜ (depth ≤ 256) × (256 ≤ length (now demands)) ⌝ }
     ensures { λ r. ⌜ Opens (demand-of d) depth (now (demands .entry)) (now (demands .exit)) r ⌝ }
 {
     if is_open(demands, depth, d) {
         return Entered::Refused(7);
     }
-    if depth < 256 {
+    if depth < PLACES {
         put_demand(demands, depth, d);
         Entered::At(depth + 1)
     } else {
@@ -189,7 +192,7 @@ fn plain_demand(kind: u32, m: u32, n: u32) -> OpenDemand
         ≡ record { kind = kind; «module_number» = m; «record» = n; within = 0; context = 0 } ⌝ }
 {
     OpenDemand {
-        kind: kind,
+        kind,
         module_number: m,
         record: n,
         within: 0,
@@ -239,7 +242,7 @@ pub fn enter_expression(
             module_number: m,
             record: e.0,
             within: 1,
-            context: context,
+            context,
         };
         enter(demands, depth, d)
     } else {

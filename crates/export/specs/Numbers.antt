@@ -37,7 +37,8 @@ line-number (LineAnswer.Refused refusal) = refusal * 4294967296
 line-number (LineAnswer.FileRefused refusal line) = refusal * 4294967296 + line
 
 -- how many bytes the lines have, and 2^32 times the first question whose line isn't there, 0 where all are there; or 2^63, 2^32 times refusal 1 to 5,
--- and its line. (Bytes and questions are few, so that the remainders are the numbers themselves.)
+-- and its line. (The remainders are the numbers themselves: a call writes at most 4,160 bytes, and a file has at most 256
+-- questions.)
 abbrev pub lines-number : LinesAnswer → ℕ
 lines-number (LinesAnswer.More next bytes) = (next % 2147483648) * 4294967296 + bytes % 4294967296
 lines-number (LinesAnswer.End bytes) = bytes % 4294967296

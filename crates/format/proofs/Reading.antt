@@ -16,7 +16,7 @@ use Rattle.format.specs.declared.LineWord.{LineWord}
 use Rattle.format.specs.declared.ScopeWord.{ScopeWord}
 use Rattle.format.specs.declared.QuestionWord.{QuestionWord}
 use Rattle.format.specs.Words.{scope-word-of, type-word-of, definition-word-of, origin-word-of, node-word-of, question-word-of}
-use Rattle.format.specs.Fields.{only-if, is-dash, plain-number, number-of, numbered, or-dash, value-of, Value, absent, number, Read, reading, behind, field-of, behind-tab, slot-field, is-nothing, slot}
+use Rattle.format.specs.Fields.{only-if, plain-number, number-of, numbered, value-of, Value, absent, number, Read, reading, behind, field-of, behind-tab, slot-field, is-nothing, slot}
 use Rattle.format.specs.Tails.{three, items, Tail, tail}
 use Rattle.format.specs.Shapes.{num, maybe-num, bare, module-shape, scope-as, type-shape, type-as, definition-shape, definition-as, origin-shape, origin-as, node-shape, node-as, question-shape, question-as}
 use Rattle.format.specs.Lines.{Entry, a-module, a-scope, a-type, a-definition, an-expression, a-question, Line, word-here, module-line, scope-line, type-line, definition-line, expression-line, question-line, line-from}
@@ -71,14 +71,6 @@ nothing-small u = nothing
 link-small : SmallKind Kind.Number
 unfolding value-of
 link-small u = number-small u
-
-maybe-link-small : SmallKind Kind.MaybeNumber
-unfolding value-of or-dash
-maybe-link-small u = of (is-dash u)
-  where
-    of : (b : Bool) → Every Small (elim b [ true ↦ some absent | false ↦ numbered (number-of max-number u) ])
-    of true = this absent (omega arith)
-    of false = number-small u
 
 slot-small : (k : Kind) → SmallKind k → (t : Text) → Every (λ (r : Read). Small (r .value)) (slot k t)
 unfolding slot slot-field

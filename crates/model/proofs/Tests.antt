@@ -28,10 +28,6 @@ pub and-right : (a b : Bool) → (a && b) ≡ true → b ≡ true
 and-right true b e = e
 and-right false b e = absurd (false≢true e)
 
-pub both-true : (a b : Bool) → a ≡ true → b ≡ true → (a && b) ≡ true
-both-true true b p q = q
-both-true false b p q = p
-
 pub or-right : (a b : Bool) → b ≡ true → (a || b) ≡ true
 or-right true b e = refl
 or-right false b e = e

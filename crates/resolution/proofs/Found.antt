@@ -3,7 +3,7 @@
 use Prim.Native.Nat.{ℕ}
 use mathlib.Core.Path.{_≡_, refl, sym, subst}
 use mathlib.Core.Bool.{Bool, true, false}
-use mathlib.Core.List.{List, List·Memᴰ, List·Memᴰ·head}
+use mathlib.Core.List.{List·Memᴰ, List·Memᴰ·head}
 use mathlib.Core.Option.{Option, none, some}
 use Rattle.model.specs.Common.{or-else}
 use Rattle.resolution.specs.TypeData.{TypeData}
@@ -42,10 +42,6 @@ pub data Each {A : Type 0} (R : A → A → Type 0) : Option A → Option A → 
 pub each-two : {A : Type 0} {R : A → A → Type 0} {o o′ : Option A} {x y : A} → o ≡ some x → o′ ≡ some y → R x y → Each R o o′
 each-two {R = R} {o′ = o′} {x = x} {y = y} e e′ r =
     subst (λ z. Each R z o′) (sym e) (subst (λ z. Each R (some x) z) (sym e′) (each x y r))
-
-pub found-path : {A : Type 0} {P : A → Type 0} {o o′ : Option A} → Found P o o′ → o ≡ o′
-found-path neither = refl
-found-path (both x p) = refl
 
 pub found-or-else : {A : Type 0} {P : A → Type 0} {a a′ b b′ : Option A} → Found P a a′ → Found P b b′ → Found P (or-else a b) (or-else a′ b′)
 found-or-else neither g = g

@@ -77,6 +77,8 @@ fn next_part(
     }
 }
 
+// Prints the parts one behind the other. Each is the definition's (`PartIs`), and all together are `resolve` of the file (`CallsResolve`, `CallsEnd`).
+// That they are written in this order is to be read here: what goes to a descriptor is no value of the logic, and `write_all` promises nothing of it.
 fn main() {
     let mut space = input();
     let n = io::read_full(0, &mut space);

@@ -160,7 +160,7 @@ read-linked : {file words : List ℕ} {depth : ℕ} {T : List ℕ} {O : List (Li
     → Runs linked file words (look (λ table. done (read table))) depth T O T O r
 unfolding run
 read-linked {file} {T = T} ok read e =
-    record { outcome = ap (λ x. linked x (table-of file T)) e ∙ linked-is (read (table-of file T)) (table-of file T); ready = ok; kept = refl; grows = grows-refl T }
+    record { outcome = ap (λ x. linked x (table-of file T)) e ∙ linked-is (read (table-of file T)) (table-of file T); ready = ok; kept = refl; rest = refl; grows = grows-refl T }
 
 module _ {file words : List ℕ} {depth : ℕ} {T : List ℕ} {O : List (List ℕ)} {T′ : List ℕ} {O′ : List (List ℕ)} where
   pub known-runs : {p : Program ℕ} {x : Resolved} {r : Linked} → Runs typed file words p depth T O T′ O′ x → IsKnown x r

@@ -10,7 +10,7 @@ use Rattle.resolution.specs.TypeData.{TypeData}
 use Rattle.resolution.specs.Types.{Table}
 use Rattle.resolution.specs.Programs.{Demand, Program, done, ask, enter}
 use Rattle.resolution.specs.TypeResolution.{resolve-all, infer-elements}
-use Rattle.resolution.specs.Run.{Outcome, answered, refused, go-on, enter-type, run}
+use Rattle.resolution.specs.Run.{Outcome, enter-type, run}
 use Rattle.resolution.specs.TableOk.{Below, OptionBelow, OutcomeOk}
 use Rattle.resolution.proofs.Safe.{Safe, run-safe, safe-asked}
 use Rattle.demands.specs.Meaning.{open-demands}
@@ -24,7 +24,7 @@ use Rattle.type_table.proofs.Laws.{below-members, interned-ok}
 use Rattle.type_table.specs.declared.Resolved.{Resolved}
 use Rattle.type_resolution.specs.State.{Ready, Runs, typed, collected}
 use Rattle.type_resolution.specs.declared.Collected.{Collected}
-use Rattle.type_resolution.proofs.Running.{handler, Gives, is-typed, is-collected}
+use Rattle.type_resolution.proofs.Running.{handler, Gives, is-typed, is-collected, go-on-answered}
 
 -- ------------------------------------------------------------------ what is answered
 
@@ -82,11 +82,6 @@ unfolding typed
 same-outcome file w (Resolved.Answered t) = refl
 same-outcome file w (Resolved.Refused n) = refl
 
-go-on-answered : {A : Type 0} (o : Outcome A) → go-on o answered ≡ o
-unfolding go-on
-go-on-answered (answered a table) = refl
-go-on-answered (refused n) = refl
-
 pub interns-runs : {file words : List ℕ} {depth : ℕ} {T : List ℕ} {O : List (List ℕ)} {row : TypeData} {T′ : List ℕ} {r : Resolved} → Ready file words depth T O → Interns file row T T′ r
     → Runs typed file words (enter row done) depth T O T′ O r
 unfolding run
@@ -94,5 +89,6 @@ interns-runs {file} {T = T} {row = row} {T′ = T′} {r = r} ok i = record {
   outcome = same-outcome file T′ r ∙ i .outcome ∙ sym (go-on-answered (enter-type row (table-of file T)));
   ready = record { few = ok .few; sound = i .sound; ok = interned-ok i (ok .ok); places = ok .places; below = ok .below };
   kept = refl;
+  rest = refl;
   grows = i .grows;
 }

@@ -35,20 +35,21 @@ pub record Leads {A : Type 0} (file words : List ℕ) (depth : ℕ) (p : Program
   pub same : run (handler file words depth O₀) p (table-of file T₀) ≡ run (handler file words depth O) q (table-of file T)
   pub ready : Ready file words depth T O
   pub kept : open-demands depth O ≡ open-demands depth O₀
+  pub rest : drop 256 O ≡ drop 256 O₀
   pub grows : Grows T₀ T
 
 module _ {A : Type 0} {file words : List ℕ} {depth : ℕ} where
   pub leads-from : {p : Program A} {T : List ℕ} {O : List (List ℕ)} (q : Program A) → p ≡ q → Ready file words depth T O → Leads file words depth p T O q T O
-  leads-from {T = T} {O} q e ok = record { same = ap (λ x. run (handler file words depth O) x (table-of file T)) e; ready = ok; kept = refl; grows = grows-refl T }
+  leads-from {T = T} {O} q e ok = record { same = ap (λ x. run (handler file words depth O) x (table-of file T)) e; ready = ok; kept = refl; rest = refl; grows = grows-refl T }
 
   module _ {p : Program A} {T₀ : List ℕ} {O₀ : List (List ℕ)} {q : Program A} {T : List ℕ} {O : List (List ℕ)} (l : Leads file words depth p T₀ O₀ q T O) where
     pub leads-as : (q′ : Program A) → q ≡ q′ → Leads file words depth p T₀ O₀ q′ T O
-    leads-as q′ e = record { same = l .same ∙ ap (λ x. run (handler file words depth O) x (table-of file T)) e; ready = l .ready; kept = l .kept; grows = l .grows }
+    leads-as q′ e = record { same = l .same ∙ ap (λ x. run (handler file words depth O) x (table-of file T)) e; ready = l .ready; kept = l .kept; rest = l .rest; grows = l .grows }
 
     -- the loop's end
     pub leads-runs : {R : Type 0} {meaning : R → Table → Outcome A} {T′ : List ℕ} {O′ : List (List ℕ)} {r : R} → Runs meaning file words q depth T O T′ O′ r
         → Runs meaning file words p depth T₀ O₀ T′ O′ r
-    leads-runs b = record { outcome = b .outcome ∙ sym (l .same); ready = b .ready; kept = b .kept ∙ l .kept; grows = grows-trans (l .grows) (b .grows) }
+    leads-runs b = record { outcome = b .outcome ∙ sym (l .same); ready = b .ready; kept = b .kept ∙ l .kept; rest = b .rest ∙ l .rest; grows = grows-trans (l .grows) (b .grows) }
 
   -- one demand, and on
   pub leads-on : {B R : Type 0} {means : R → Table → Outcome B} {p : Program A} {T₀ : List ℕ} {O₀ : List (List ℕ)} {first : Program B} (f : B → Program A) {T : List ℕ} {O : List (List ℕ)} {T′ : List ℕ} {O′ : List (List ℕ)} {r : R} {x : B}
@@ -62,13 +63,14 @@ module _ {A : Type 0} {file words : List ℕ} {depth : ℕ} where
         ∙ ap (λ os. run (demand (256 - depth) (index-of file words) os) (f x) (table-of file T′)) (sym (a .kept));
     ready = a .ready;
     kept = a .kept ∙ l .kept;
+    rest = a .rest ∙ l .rest;
     grows = grows-trans (l .grows) (a .grows);
   }
 
   pub leads-look : {p : Program A} {T₀ : List ℕ} {O₀ : List (List ℕ)} (k : Table → Program A) {T : List ℕ} {O : List (List ℕ)} → Leads file words depth p T₀ O₀ (look k) T O
       → Leads file words depth p T₀ O₀ (k (table-of file T)) T O
   unfolding run
-  leads-look k l = record { same = l .same; ready = l .ready; kept = l .kept; grows = l .grows }
+  leads-look k l = record { same = l .same; ready = l .ready; kept = l .kept; rest = l .rest; grows = l .grows }
 
 -- ------------------------------------------------------------------ what is left of a list
 

@@ -92,11 +92,11 @@ not-compared e t = ap (λ r. compared r t) e
 module _ {A R : Type 0} {meaning : R → Table → Outcome A} {file words : List ℕ} {depth : ℕ} {T : List ℕ} {O : List (List ℕ)} (ok : Ready file words depth T O) where
   pub ends : {a : A} {r : R} → Gives meaning r a → Runs meaning file words (done a) depth T O T O r
   unfolding run
-  ends is = record { outcome = is (table-of file T); ready = ok; kept = refl; grows = grows-refl T }
+  ends is = record { outcome = is (table-of file T); ready = ok; kept = refl; rest = refl; grows = grows-refl T }
 
   pub stops : {n : ℕ} {r : R} → Stops meaning r n → Runs meaning file words (refuse n) depth T O T O r
   unfolding run
-  stops is = record { outcome = is (table-of file T); ready = ok; kept = refl; grows = grows-refl T }
+  stops is = record { outcome = is (table-of file T); ready = ok; kept = refl; rest = refl; grows = grows-refl T }
 
 module _ {file words : List ℕ} {depth : ℕ} {T : List ℕ} {O : List (List ℕ)} (ok : Ready file words depth T O) where
   -- a known type
@@ -115,7 +115,7 @@ module _ {file words : List ℕ} {depth : ℕ} {T : List ℕ} {O : List (List �
   -- what is read of the table
   pub reads : {read : Table → ℕ} {n : ℕ} → Reads file T read n → Runs typed file words (look (λ table. done (read table))) depth T O T O (Resolved.Answered n)
   unfolding run typed
-  reads is = record { outcome = ap (λ n. answered n (table-of file T)) (is .same); ready = ok; kept = refl; grows = grows-refl T }
+  reads is = record { outcome = ap (λ n. answered n (table-of file T)) (is .same); ready = ok; kept = refl; rest = refl; grows = grows-refl T }
 
 -- ------------------------------------------------------------------ one program, then another
 
@@ -132,6 +132,7 @@ module _ {A B R S : Type 0} {means : R → Table → Outcome A} {meaning : S →
         ∙ ap (λ o. go-on o (λ y. run (handler file words depth O) (f y))) (sym (a .outcome) ∙ is (table-of file T′)));
     ready = b .ready;
     kept = b .kept ∙ a .kept;
+    rest = b .rest ∙ a .rest;
     grows = grows-trans (a .grows) (b .grows);
   }
 
@@ -144,6 +145,7 @@ module _ {A B R S : Type 0} {means : R → Table → Outcome A} {meaning : S →
         ∙ ap (λ o. go-on o (λ y. run (handler file words depth O) (f y))) (sym (a .outcome) ∙ is (table-of file T′)));
     ready = a .ready;
     kept = a .kept;
+    rest = a .rest;
     grows = a .grows;
   }
 
@@ -169,7 +171,7 @@ module _ {A R : Type 0} {meaning : R → Table → Outcome A} {file words : List
   -- the table as it stands
   pub look-runs : (k : Table → Program A) → Runs meaning file words (k (table-of file T)) depth T O T′ O′ r → Runs meaning file words (look k) depth T O T′ O′ r
   unfolding run
-  look-runs k a = record { outcome = a .outcome; ready = a .ready; kept = a .kept; grows = a .grows }
+  look-runs k a = record { outcome = a .outcome; ready = a .ready; kept = a .kept; rest = a .rest; grows = a .grows }
 
   -- a program that is another
   pub same-runs : {p q : Program A} → p ≡ q → Runs meaning file words q depth T O T′ O′ r → Runs meaning file words p depth T O T′ O′ r
@@ -177,7 +179,8 @@ module _ {A R : Type 0} {meaning : R → Table → Outcome A} {file words : List
 
 -- ------------------------------------------------------------------ opening a demand
 
-go-on-answered : {A : Type 0} (o : Outcome A) → go-on o answered ≡ o
+-- what an answer is handed on to, itself
+pub go-on-answered : {A : Type 0} (o : Outcome A) → go-on o answered ≡ o
 unfolding go-on
 go-on-answered (answered a table) = refl
 go-on-answered (refused n) = refl
@@ -206,6 +209,7 @@ module _ {file words : List ℕ} {depth : ℕ} {T : List ℕ} {O O₁ : List (Li
           ∙ sym (run-ask-done (handler file words depth O) d (table-of file T) ∙ refused-demand o h (ok .below) (index-of file words) (table-of file T));
       ready = record { few = ok .few; sound = ok .sound; ok = ok .ok; places = still-long o (ok .places); below = ok .below };
       kept = o .kept;
+      rest = o .rest;
       grows = grows-refl T;
     }
 
@@ -218,6 +222,7 @@ module _ {file words : List ℕ} {depth : ℕ} {T : List ℕ} {O O₁ : List (Li
           ∙ sym (run-ask-done (handler file words depth O) d (table-of file T) ∙ opened-demand o h (index-of file words) (table-of file T));
       ready = record { few = b .ready .few; sound = b .ready .sound; ok = b .ready .ok; places = b .ready .places; below = ok .below };
       kept = kept-through o h O′ (b .kept);
+      rest = b .rest ∙ o .rest;
       grows = b .grows;
     }
 
@@ -227,7 +232,7 @@ module _ {A R : Type 0} {meaning : R → Table → Outcome A} {file words : List
   pub data-runs : (t : ℕ) (f : TypeData → Program A) → Runs meaning file words (f (data-of (table-of file T) t)) depth T O T′ O′ r
       → Runs meaning file words (type-data t >>= f) depth T O T′ O′ r
   unfolding run _>>=_
-  data-runs t f a = record { outcome = a .outcome; ready = a .ready; kept = a .kept; grows = a .grows }
+  data-runs t f a = record { outcome = a .outcome; ready = a .ready; kept = a .kept; rest = a .rest; grows = a .grows }
 
 -- ------------------------------------------------------------------ free places
 

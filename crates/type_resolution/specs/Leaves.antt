@@ -7,14 +7,12 @@ use mathlib.Core.List.{List}
 use mathlib.Core.Option.{Option, none, some}
 use Rattle.model.specs.Common.{if_then_else_, let-some}
 use Rattle.model.specs.Lookups.{module-at, type-expr-at, definition-at, expression-at}
-use Rattle.model.specs.Records as model
 use Rattle.records.specs.Layout.{index-of, module-row}
 use Rattle.records.specs.Meaning.{found-type-expr-of, found-definition-of, found-expression-of}
 use Rattle.records.specs.declared.FoundTypeExpr.{FoundTypeExpr}
 use Rattle.records.specs.declared.FoundDefinition.{FoundDefinition}
 use Rattle.records.specs.declared.FoundExpression.{FoundExpression}
 use Rattle.records.specs.declared.DefinitionKind.{DefinitionKind}
-use Rattle.records.specs.declared.Items.{Items}
 use Rattle.resolution.specs.Types.{Table, error}
 use Rattle.resolution.specs.Views.{numeric, numeric-context}
 use Rattle.type_table.specs.Layout.{table-of, type-count}

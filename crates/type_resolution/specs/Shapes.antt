@@ -11,7 +11,6 @@ use Rattle.model.specs.Links.{field-types}
 use Rattle.records.specs.Meaning.{links-of}
 use Rattle.records.specs.declared.Items.{Items}
 use Rattle.records.specs.declared.TypeExpr.{TypeExpr}
-use Rattle.records.specs.declared.DefinitionKind.{DefinitionKind}
 use Rattle.records.specs.declared.Expression.{Expression}
 use Rattle.resolution.specs.TypeData.{TypeData}
 use Rattle.resolution.specs.Types.{error}

@@ -5,7 +5,7 @@ use Prim.Native.Nat.{ℕ, _-_, _≤_}
 use mathlib.Core.Bool.{Bool, true, false}
 use mathlib.Core.List.{List}
 use mathlib.Core.Option.{Option, none, some}
-use lib.ListN.{length, take}
+use lib.ListN.{length, take, drop}
 use Rattle.model.specs.Limits.{item-count, max-items}
 use Rattle.records.specs.Layout.{index-of}
 use Rattle.resolution.specs.Types.{Table}
@@ -67,12 +67,13 @@ compared (Compared.Refused n) table = refused n
 
 -- ------------------------------------------------------------------ the promise
 
--- the program, with `depth` demands open, gives the result; the state is ready for the next call, the open demands are as they were, and the
--- types that were there are still there
+-- the program, with `depth` demands open, gives the result; the state is ready for the next call, the open demands are as they were, and so is
+-- what lies past the 256th place; the types that were there are still there, and so is what lies past the table (`Grows`)
 pub record Runs {A R : Type 0} (meaning : R → Table → Outcome A) (file words : List ℕ) (p : Program A) (depth : ℕ) (types : List ℕ)
     (demands : List (List ℕ)) (types′ : List ℕ) (demands′ : List (List ℕ)) (r : R) : Type 0 where
   pub outcome : meaning r (table-of file types′)
       ≡ run (demand (256 - depth) (index-of file words) (open-demands depth demands)) p (table-of file types)
   pub ready : Ready file words depth types′ demands′
   pub kept : open-demands depth demands′ ≡ open-demands depth demands
+  pub rest : drop 256 demands′ ≡ drop 256 demands
   pub grows : Grows types types′

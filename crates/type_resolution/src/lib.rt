@@ -2,11 +2,12 @@
 // They call each other in a cycle; each of the five opens its demand first, so the number of free places falls.
 // They are `resolve_ast_type`, `definition_semantic_type`, `struct_semantic_data`, `function_semantic_signature` and `expression_semantic_type` there; a
 // cycle's modules are named after all its members, and a library carries checked modules only under names of at most 249 bytes, so here they are
-// `ast_type`, `def_type`, `struct_data`, `fn_signature` and `expr_type`, and their helpers have the names of the file's keywords.
+// `ast_type`, `def_type`, `struct_data`, `fn_signature` and `expr_type`. A helper for one kind of node has that node's keyword in the index file
+// (`lit`, `un`, `bin`, `call`, `member`, `index`, `tuple`, `tidx`, `arr`, `rep`, `new`), one for a type expression likewise (`tup`, since `tuple` is
+// the node's, and `array`).
 use demands::Entered;
 use demands::Place;
 use records::BinaryOp;
-use records::Definition;
 use records::DefinitionIndex;
 use records::DefinitionKind;
 use records::DefinitionLink;
@@ -34,21 +35,23 @@ use type_table::TypeList;
 use views::FoundFieldType;
 use views::FoundImport;
 ghost use mathlib.Core.Path.{_≡_};
-ghost use Prim.Native.Nat.{ℕ, _+_, _*_, _≤_, _<_};
-ghost use mathlib.Core.List.{List};
-ghost use mathlib.Core.Option.{none, some};
+ghost use Prim.Native.Nat.{_+_, _≤_, _<_};
+ghost use mathlib.Core.Option.{some};
 ghost use lib.ListN.{length};
 ghost use Rattle.records.specs.Layout.{index-of, module-row};
 ghost use Rattle.records.specs.Meaning.{name-of, numbers-of, links-of, names-with-types-of, type-expr-of, definition-kind-of, type-link-of, expression-link-of, definition-link-of, suffix-of, expression-of, info-of, unary-op-of, binary-op-of, question-of};
 ghost use Rattle.model.specs.Records.{Question as ModelQuestion};
 ghost use Rattle.resolution.specs.Programs.{Demand, ask, done};
-ghost use Rattle.resolution.specs.TypeResolution.{resolve-all, infer-only, infer-arguments, infer-elements, all-same-type, array-type, type-expr-type, definition-kind-type, context-expected, node-type, new-type, unary-type, binary-type, member-type, call-type, index-type, tuple-type, tuple-index-type, array-repeat-type, question-program};
+ghost use Rattle.resolution.specs.TypeResolution.{resolve-all, infer-only, infer-arguments, infer-elements, all-same-type, array-type, type-expr-type, definition-kind-type, context-expected, node-type, new-type, unary-type, binary-type, member-type, call-type, index-type, tuple-type, tuple-index-type, question-program};
 ghost use Rattle.type_table.specs.Layout.{item-count, types-of};
 ghost use Rattle.type_table.specs.Meaning.{found-type-of};
 ghost use Rattle.demands.specs.Promises.{Opens};
 ghost use Rattle.type_resolution.specs.State.{Ready, Runs, typed, linked, ignored, collected, compared, Exactly, AtMost};
 ghost use Rattle.type_resolution.specs.Shapes.{struct-named, declared-type, tuple-expr-type, struct-type, signature-type, literal-in, array-literal-in, empty-array-in, repeat-in, links-behind, ShortType, ShortNode};
 ghost use Rattle.type_resolution.specs.Leaves.{TypeIn, DefinitionIn, ExpressionIn, linked-by, IsKnown, OrError, Passed, Returned, NumericOr, StructFields, FunctionParts, HintBelow};
+
+// The refusal where the Rust unwraps a child that is missing.
+const MISSING_CHILD: u32 = 6;
 
 // The number of a type or none, or the number of a refusal.
 pub enum Linked {
@@ -115,6 +118,7 @@ fn expression_in(words: &[u32], m: u32, e: ExpressionId) -> FoundExpression
     }
 }
 
+// The fields, where the definition is a struct.
 fn struct_fields(kind: DefinitionKind) -> FoundFields
     ensures { λ r. ⌜ StructFields kind r ⌝ }
 {
@@ -129,6 +133,7 @@ fn struct_fields(kind: DefinitionKind) -> FoundFields
     }
 }
 
+// The return type and the parameters, where the definition is a function.
 fn function_parts(kind: DefinitionKind) -> FoundFunction
     ensures { λ r. ⌜ FunctionParts kind r ⌝ }
 {
@@ -226,7 +231,7 @@ fn enter_expression(
 // ------------------------------------------------------------------ resolve_ast_type
 
 // `resolve_ast_type`.
-pub fn ast_type(
+fn ast_type(
     file: &[u8],
     words: &[u32],
     types: &mut [u32],
@@ -282,7 +287,7 @@ fn ty(
             Resolved::Answered(element) => type_table::intern_pointer(file, types, element),
         },
         TypeExpr::Tuple(list) => tup(file, words, types, demands, depth, m, s, list),
-        TypeExpr::FixedArray(t, size) => arr(file, words, types, demands, depth, m, s, t, size),
+        TypeExpr::FixedArray(t, size) => array(file, words, types, demands, depth, m, s, t, size),
     }
 }
 
@@ -341,7 +346,7 @@ fn tup(
 }
 
 // An array type; directly of arrays it is error.
-fn arr(
+fn array(
     file: &[u8],
     words: &[u32],
     types: &mut [u32],
@@ -405,7 +410,7 @@ fn all(
 // ------------------------------------------------------------------ definition_semantic_type
 
 // `definition_semantic_type`.
-pub fn def_type(
+fn def_type(
     file: &[u8],
     words: &[u32],
     types: &mut [u32],
@@ -549,7 +554,7 @@ fn var(
 // ------------------------------------------------------------------ struct_semantic_data, function_semantic_signature
 
 // `struct_semantic_data`.
-pub fn struct_data(
+fn struct_data(
     file: &[u8],
     words: &[u32],
     types: &mut [u32],
@@ -624,7 +629,7 @@ fn fields(
 }
 
 // `function_semantic_signature`.
-pub fn fn_signature(
+fn fn_signature(
     file: &[u8],
     words: &[u32],
     types: &mut [u32],
@@ -696,7 +701,7 @@ fn sig(
 // ------------------------------------------------------------------ expression_semantic_type
 
 // `expression_semantic_type`.
-pub fn expr_type(
+fn expr_type(
     file: &[u8],
     words: &[u32],
     types: &mut [u32],
@@ -923,7 +928,7 @@ fn node(
         Expression::TupleIndex(e, i) => tidx(file, words, types, demands, depth, m, e, i),
         Expression::ArrayLiteral(list) => {
             let expected = info.expected;
-            array(
+            arr(
                 file,
                 words,
                 types,
@@ -984,6 +989,7 @@ fn lit(
     }
 }
 
+// `new`: the count is asked first, for its demand alone, as a felt; then the element's T.
 fn new(
     file: &[u8],
     words: &[u32],
@@ -1016,7 +1022,7 @@ fn new(
     }
 }
 
-// A child that is there, for its demand alone.
+// A child that is there, for its demand alone: of the answer only a refusal counts.
 fn only(
     file: &[u8],
     words: &[u32],
@@ -1036,6 +1042,7 @@ fn only(
     }
 }
 
+// An operator of one operand, which is asked in the operator's own context.
 fn un(
     file: &[u8],
     words: &[u32],
@@ -1051,7 +1058,7 @@ fn un(
     ensures { λ r. ⌜ Runs typed (now (file .entry)) (now (words .entry)) (unary-type m (found-type-of context) (unary-op-of op) (expression-link-of operand)) depth (now (types .entry)) (now (demands .entry)) (now (types .exit)) (now (demands .exit)) r ⌝ }
 {
     match operand {
-        ExpressionLink::Absent => Resolved::Refused(6),
+        ExpressionLink::Absent => Resolved::Refused(MISSING_CHILD),
         ExpressionLink::To(e) => match expr_type(
             file,
             words,
@@ -1073,6 +1080,7 @@ fn un(
     }
 }
 
+// An operator of two operands: the one that is asked second has the first one's type as its context.
 fn bin(
     file: &[u8],
     words: &[u32],
@@ -1089,10 +1097,10 @@ fn bin(
     ensures { λ r. ⌜ Runs typed (now (file .entry)) (now (words .entry)) (binary-type m (module-row (now (file .entry)) (now (words .entry)) m) (found-type-of context) (binary-op-of op) (expression-link-of left) (expression-link-of right)) depth (now (types .entry)) (now (demands .entry)) (now (types .exit)) (now (demands .exit)) r ⌝ }
 {
     let ExpressionLink::To(a) = left else {
-        return Resolved::Refused(6);
+        return Resolved::Refused(MISSING_CHILD);
     };
     let ExpressionLink::To(b) = right else {
-        return Resolved::Refused(6);
+        return Resolved::Refused(MISSING_CHILD);
     };
     if views::right_first(words, m, op, a, b) {
         match expr_type(file, words, types, demands, depth, m, b, context) {
@@ -1143,6 +1151,7 @@ fn bin(
     }
 }
 
+// A field of a struct; error where the object is missing or no struct.
 fn member(
     file: &[u8],
     words: &[u32],
@@ -1179,6 +1188,7 @@ fn member(
     }
 }
 
+// A call: a built-in gives unit before anything is asked. The arguments are asked only where the callee is a function, and don't bear on the type.
 fn call(
     file: &[u8],
     words: &[u32],
@@ -1251,6 +1261,7 @@ fn args(
     Resolved::Answered(0)
 }
 
+// An element of an array or behind a pointer; the index is asked for its demand alone, as a felt.
 fn index(
     file: &[u8],
     words: &[u32],
@@ -1377,6 +1388,7 @@ fn elems(
     Collected::All(n)
 }
 
+// An element of a tuple by its number.
 fn tidx(
     file: &[u8],
     words: &[u32],
@@ -1391,7 +1403,7 @@ fn tidx(
     ensures { λ r. ⌜ Runs typed (now (file .entry)) (now (words .entry)) (tuple-index-type m (expression-link-of e) i) depth (now (types .entry)) (now (demands .entry)) (now (types .exit)) (now (demands .exit)) r ⌝ }
 {
     match e {
-        ExpressionLink::Absent => Resolved::Refused(6),
+        ExpressionLink::Absent => Resolved::Refused(MISSING_CHILD),
         ExpressionLink::To(x) => match expr_type(
             file,
             words,
@@ -1409,7 +1421,7 @@ fn tidx(
 }
 
 // An array: its first element says what the others must fit.
-fn array(
+fn arr(
     file: &[u8],
     words: &[u32],
     types: &mut [u32],
@@ -1431,7 +1443,7 @@ fn array(
         return empty(file, words, types, demands, depth, m, s, expected, hint);
     }
     let ExpressionLink::To(e) = records::item_link(words, first, 0) else {
-        return Resolved::Refused(6);
+        return Resolved::Refused(MISSING_CHILD);
     };
     match expr_type(file, words, types, demands, depth, m, e, hint) {
         Resolved::Refused(n) => Resolved::Refused(n),
@@ -1527,6 +1539,7 @@ fn same(
     Compared::Same
 }
 
+// An array of one element, many times.
 fn rep(
     file: &[u8],
     words: &[u32],
@@ -1543,7 +1556,7 @@ fn rep(
 {
     let hint = type_table::element_hint(types, context);
     match element {
-        ExpressionLink::Absent => Resolved::Refused(6),
+        ExpressionLink::Absent => Resolved::Refused(MISSING_CHILD),
         ExpressionLink::To(e) => match expr_type(file, words, types, demands, depth, m, e, hint) {
             Resolved::Refused(n) => Resolved::Refused(n),
             Resolved::Answered(t) => type_table::intern_array(file, types, t, size),

@@ -22,22 +22,18 @@ module _ (file w : List ℕ) (row : TypeData) (sound : Sound file w) where
   interns-old t found = record {
     outcome = sym (enter-found row (table-of file w) t found);
     sound = sound;
-    rest = refl;
     grows = grows-refl w;
     below = λ u e. let same : t ≡ u = cc in subst (λ n. n < type-count w) same (found-below file w row t found);
     kept = λ n e. refl;
-    same-length = refl;
   }
 
   interns-not : enter-type row (table-of file w) ≡ refused 9 → Interns file row w w (Resolved.Refused 9)
   interns-not e = record {
     outcome = sym e;
     sound = sound;
-    rest = refl;
     grows = grows-refl w;
     below = λ t h. let z : _≡_ {A = ℕ} 0 1 = cc in absurd (omega arith);
     kept = λ n h. refl;
-    same-length = refl;
   }
 
   pub full-types : find-type (table-of file w) row ≡ none → 256 ≤ type-count w → Interns file row w w (Resolved.Refused 9)
@@ -57,14 +53,13 @@ module _ (file : List ℕ) (head : Head) (names items w : List ℕ) (sound : Sou
         ap (answered (type-count w)) (table-grown file head names items w w′ sound canonical types room grown)
         ∙ sym (entered-new file w (data-from file head names items) lost types (omega (arith, items-are file head names items canonical, sound .held)));
     sound = sound-grown file head names items w w′ sound canonical types room grown lower;
-    rest = rest-grown file head names items w w′ sound canonical types room grown;
     grows = record {
       types = omega (arith, grown .counted);
       items = omega (arith, grown .filled);
       kept = grown .items-kept;
+      rest = rest-grown file head names items w w′ sound canonical types room grown;
       same-length = grown .same-length;
     };
     below = λ t e. let same : type-count w ≡ t = cc in omega (arith, grown .counted);
     kept = λ n e. let z : _≡_ {A = ℕ} 0 1 = cc in absurd (omega arith);
-    same-length = grown .same-length;
   }

@@ -47,14 +47,6 @@ lower file w sound t = go (leb (type-count w) t) refl
     go true e = subst⁻¹ (λ r. AllBelow t (row-types r)) (data-past file w t (leb-true _ _ e)) (nothing t)
     go false e = subst⁻¹ (λ r. AllBelow t (row-types r)) (data-below file w t (leb-false _ _ e)) (sound .rows t (leb-false _ _ e) .below)
 
--- a type inside another is one of the table
-pub inner-counted : (file w : List ℕ) → Sound file w → (t : ℕ) → AllBelow (type-count w) (row-types (data-of (table-of file w) t))
-inner-counted file w sound t = go (leb (type-count w) t) refl
-  where
-    go : (b : Bool) → leb (type-count w) t ≡ b → AllBelow (type-count w) (row-types (data-of (table-of file w) t))
-    go true e = subst⁻¹ (λ r. AllBelow (type-count w) (row-types r)) (data-past file w t (leb-true _ _ e)) (nothing (type-count w))
-    go false e = λ i past. omega (arith, lower file w sound t i past, leb-false (type-count w) t e)
-
 -- ------------------------------------------------------------------ interning keeps the table as it should be
 
 last-data : (table : Table) (row : TypeData) (t : ℕ) → length table ≡ t → data-of (table ++ (row ∷ [])) t ≡ row

@@ -39,22 +39,21 @@ pub record NamesCopied (words : List ℕ) (first count : ℕ) (names names′ : 
   pub same-length : length names′ ≡ length names
   pub inside : (j : ℕ) → j < count → word names′ j ≡ item-name words (first + j)
 
--- what stands in a later table of the same question: no fewer types, and the items that were there
+-- what stands in a later table of the same question: no fewer types, and the items that were there. "In longer ones the rest stays"
 pub record Grows (w w′ : List ℕ) : Type 0 where
   pub types : type-count w ≤ type-count w′
   pub items : item-count w ≤ item-count w′
   pub kept : (j : ℕ) → 2050 ≤ j → j < 2050 + item-count w → word w′ j ≡ word w j
+  pub rest : drop 8192 w′ ≡ drop 8192 w
   pub same-length : length w′ ≡ length w
 
 -- interning: the number of a row of the table, which enters it if it is new, or refusal 9
 pub record Interns (file : List ℕ) (row : TypeData) (w w′ : List ℕ) (r : Resolved) : Type 0 where
   pub outcome : outcome-of file r w′ ≡ enter-type row (table-of file w)
   pub sound : Sound file w′
-  pub rest : drop 8192 w′ ≡ drop 8192 w
   pub grows : Grows w w′
   pub below : (t : ℕ) → r ≡ Answered t → t < type-count w′
   pub kept : (n : ℕ) → r ≡ Refused n → w′ ≡ w
-  pub same-length : length w′ ≡ length w
 
 -- ------------------------------------------------------------------ reading
 

@@ -8,7 +8,7 @@ ghost use Prim.Native.Nat.{ℕ, _+_, _≤_, _<_};
 ghost use mathlib.Core.List.{List, map};
 ghost use lib.ListN.{length, getElem?};
 ghost use Rattle.model.specs.Common.{eq-numbers};
-ghost use Rattle.records.specs.Layout.{word, name-by};
+ghost use Rattle.records.specs.Layout.{name-by};
 ghost use Rattle.records.specs.Meaning.{name-of, numbers-of, names-with-types-of, suffix-of};
 ghost use Rattle.resolution.specs.TypeData.{TypeData as Data};
 ghost use Rattle.resolution.specs.Types.{eq-names, data-of, field-type, find-type, as-pointer, as-struct};
@@ -24,18 +24,30 @@ ghost use Rattle.type_table.specs.Promises.{Copied, NamesCopied, cleared
 ghost use Rattle.type_table.specs.Promises.{Interns, Reads, DataRead, TupleRead, SignatureRead, ContextsRead};
 
 // The layout of the type buffer: its words, where the items' types and names begin, and its limits.
-const WORDS: usize = 8192;
+pub const WORDS: usize = 8192;
 
 const ITEMS: usize = 2050;
 
 const NAMES: usize = 4098;
 
-// Where the item rows of the record words begin.
-const RECORD_ITEMS: usize = 12288;
-
 const MAX_TYPES: u32 = 256;
 
 const MAX_ITEMS: usize = 2048;
+
+// The kinds of rows. A type without parts has its number as its kind; `()` is a tuple.
+pub const KIND_UNKNOWN: u32 = 3;
+
+pub const KIND_ERROR: u32 = 4;
+
+pub const KIND_TUPLE: u32 = 5;
+
+pub const KIND_POINTER: u32 = 6;
+
+pub const KIND_ARRAY: u32 = 7;
+
+pub const KIND_STRUCT: u32 = 8;
+
+pub const KIND_FUNCTION: u32 = 9;
 
 // The fixed words of a row. What its kind has no use for is zero.
 pub struct Head {
@@ -114,7 +126,7 @@ pub enum Resolved {
 // ------------------------------------------------------------------ the words of a row
 
 // So many words from a place on, as far as there are any.
-pub fn words_from(words: &[u32], from: usize, count: usize) -> &[u32]
+fn words_from(words: &[u32], from: usize, count: usize) -> &[u32]
     ensures { λ r. ⌜ now r ≡ part (now (words .entry)) from count ⌝ }
 {
     let len = words.len();
@@ -164,7 +176,7 @@ fn names_of(types: &[u32], t: u32) -> &[u32]
     ensures { λ r. ⌜ now r ≡ names-at (now (types .entry)) t ⌝ }
 {
     let at = 8 * (t as usize);
-    if records::word_at(types, at + 2) == 8 {
+    if records::word_at(types, at + 2) == KIND_STRUCT {
         let start = records::word_at(types, at + 8) as usize;
         let count = records::word_at(types, at + 9) as usize;
         return words_from(types, NAMES + start, count);
@@ -280,7 +292,7 @@ pub fn data(types: &[u32], t: u32) -> TypeData
 }
 
 // The elements of a tuple.
-pub fn tuple_of(types: &[u32], t: u32) -> FoundList
+fn tuple_of(types: &[u32], t: u32) -> FoundList
     ensures { λ r. ⌜ TupleRead (now (types .entry)) t r ⌝ }
 {
     match data(types, t) {
@@ -290,7 +302,7 @@ pub fn tuple_of(types: &[u32], t: u32) -> FoundList
 }
 
 // The element of a pointer.
-pub fn pointer_of(types: &[u32], t: u32) -> FoundType
+fn pointer_of(types: &[u32], t: u32) -> FoundType
     ensures { λ r. ⌜ ((file : List ℕ) → found-type-of r ≡ as-pointer (data-of (table-of file (now (types .entry))) t)) ⌝ }
 {
     match data(types, t) {
@@ -310,7 +322,7 @@ pub fn array_of(types: &[u32], t: u32) -> FoundArray
 }
 
 // The fields of a struct.
-pub fn struct_of(types: &[u32], t: u32) -> FoundList
+fn struct_of(types: &[u32], t: u32) -> FoundList
     ensures { λ r. ⌜ ((file : List ℕ) → found-fields-of file (now (types .entry)) r ≡ as-struct (data-of (table-of file (now (types .entry))) t)) ⌝ }
 {
     match data(types, t) {
@@ -355,7 +367,7 @@ pub fn item(types: &[u32], list: TypeList, i: u32) -> FoundType
 }
 
 // The type of the first field of the name.
-pub fn field_type(file: &[u8], types: &[u32], list: TypeList, name: Name) -> FoundType
+fn field_type(file: &[u8], types: &[u32], list: TypeList, name: Name) -> FoundType
     ensures { λ r. ⌜ found-type-of r ≡ field-type (fields-in (now (file .entry)) (now (types .entry)) list) (name-of (now (file .entry)) name) ⌝ }
 {
     let names = words_from(types, NAMES + (list.first as usize), list.count as usize);
@@ -643,7 +655,7 @@ pub fn intern_pointer(file: &[u8], types: &mut [u32], element: u32) -> Resolved
     let names = [0u32];
     let items = [0u32];
     let head = Head {
-        kind: 6,
+        kind: KIND_POINTER,
         home: 0,
         definition: 0,
         element,
@@ -661,7 +673,7 @@ pub fn intern_array(file: &[u8], types: &mut [u32], element: u32, size: u64) -> 
     let names = [0u32];
     let items = [0u32];
     let head = Head {
-        kind: 7,
+        kind: KIND_ARRAY,
         home: 0,
         definition: 0,
         element,
@@ -678,7 +690,7 @@ pub fn intern_tuple(file: &[u8], types: &mut [u32], elements: &[u32]) -> Resolve
 {
     let names = [0u32];
     let head = Head {
-        kind: 5,
+        kind: KIND_TUPLE,
         home: 0,
         definition: 0,
         element: 0,
@@ -696,7 +708,7 @@ fn copy_names(words: &[u32], fields: Items, names: &mut [u32])
     let count = fields.count as usize;
     let mut i: usize = 0;
     while i < count {
-        names[i] = records::word_at(words, RECORD_ITEMS + 2 * (first + i) + 1);
+        names[i] = records::word_at(words, records::ITEMS + 2 * (first + i) + 1);
         i += 1;
     }
 }
@@ -720,7 +732,7 @@ pub fn intern_struct(
     copy_names(words, fields, &mut names);
     let count = fields.count as usize;
     let head = Head {
-        kind: 8,
+        kind: KIND_STRUCT,
         home: m,
         definition: d,
         element: 0,
@@ -745,7 +757,7 @@ pub fn intern_function(
 {
     let names = [0u32];
     let head = Head {
-        kind: 9,
+        kind: KIND_FUNCTION,
         home: m,
         definition: d,
         element: return_type,

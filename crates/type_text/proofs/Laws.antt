@@ -26,9 +26,6 @@ measured-exact r n e h = omega arith
 pub measured-over : (r n : ℕ) → r ≡ min 4097 n → max-text < r → max-text < n
 measured-over r n e h = omega arith
 
-pub over-measured : (r n : ℕ) → r ≡ min 4097 n → max-text < n → max-text < r
-over-measured r n e h = omega arith
-
 -- ------------------------------------------------------------------ what the code writes
 
 put-start : (out text : List ℕ) → put-at out 0 text ≡ text ++ drop (length text) out

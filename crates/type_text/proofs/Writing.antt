@@ -4,7 +4,6 @@ use mathlib.Core.Path.{_≡_, refl, sym, ap, ap₂, subst, _∙_}
 use mathlib.Core.List.{List, [], _∷_, _++_, append-assoc, append-nil}
 use native.Mathlib.Nat.{add-zero, add-assoc, le-refl, le-trans, le-add-right}
 use native.Mathlib.Numerals.{add-one}
-use native.Mathlib.Omega.{arith}
 use lib.ListN.{length, take, drop, set, length-append, take-append-drop}
 use lib.Seq.{take-length, take-at, drop-at, drop-drop, length-take-le, length-paste, paste, set-split, append-snoc}
 use Rattle.type_text.specs.Text.{put-at, Wrote}
@@ -69,15 +68,3 @@ unfolding put-at
 wrote-take s at a o o₁ room one =
     ap₂ take (one .next) (one .bytes)
     ∙ take-at (take at o ++ s) (drop (at + length s) o) (at + length s) (length-append (take at o) s ∙ ap (λ n. n + length s) (length-take-le at o (le-trans (le-add-right at (length s)) room)))
-
--- the bytes from the place behind on are as they were
-pub wrote-drop : (s : List ℕ) (at a : ℕ) (o o₁ : List ℕ) → at + length s ≤ length o → Wrote s at o o₁ a → drop a o₁ ≡ drop a o
-unfolding put-at
-wrote-drop s at a o o₁ room one =
-    ap₂ drop (one .next) (one .bytes)
-    ∙ drop-at (take at o ++ s) (drop (at + length s) o) (at + length s) (length-append (take at o) s ∙ ap (λ n. n + length s) (length-take-le at o (le-trans (le-add-right at (length s)) room)))
-    ∙ ap (λ n. drop n o) (sym (one .next))
-
--- what room there was for more, there is behind the text
-pub room-behind : (s : List ℕ) (at a n : ℕ) (o o₁ : List ℕ) → at + length s + n ≤ length o → Wrote s at o o₁ a → a + n ≤ length o₁
-room-behind s at a n o o₁ room one = omega (arith, one .next, wrote-length s at a o o₁ (omega arith) one)

@@ -1,7 +1,7 @@
 // The text of a type: measured first, then written straight into a lent buffer.
 use type_table::TypeData;
 ghost use mathlib.Core.Path.{_≡_};
-ghost use Prim.Native.Nat.{ℕ, _+_, _≤_, min};
+ghost use Prim.Native.Nat.{_+_, _≤_, min};
 ghost use lib.ListN.{length};
 ghost use Rattle.resolution.specs.Answer.{decimal, comma-texts, type-text};
 ghost use Rattle.resolution.specs.TableOk.{TableOk};
@@ -11,6 +11,9 @@ ghost use Rattle.type_text.specs.Text.{comma-rest, tuple-text, pointer-t
 
 // The most bytes that a type's text may have.
 const MAX_TEXT: usize = 4096;
+
+// The length that stands for every one over the limit.
+const OVER: usize = 4097;
 
 // The text of a type written, with its length; or over 4,096 bytes; or longer than the buffer.
 pub enum TypeText {
@@ -75,7 +78,7 @@ fn put_definition(out: &mut [u8], at: usize, lead: &[u8], home: u32, definition:
 fn capped(n: usize) -> usize
     ensures { λ r. ⌜ r ≡ min 4097 n ⌝ }
 {
-    if n < 4097 { n } else { 4097 }
+    if n < OVER { n } else { OVER }
 }
 
 // The length of a type's text added to what is used, up to 4,097: past 4,096 nothing more is looked at.
@@ -86,7 +89,7 @@ fn measure_type(file: &[u8], types: &[u32], t: u32, used: usize) -> usize
     ensures { λ r. ⌜ r ≡ min 4097 (used + length (type-text (table-of (now (file .entry)) (now (types .entry))) t)) ⌝ }
 {
     if MAX_TEXT < used {
-        return 4097;
+        return OVER;
     }
     match type_table::data(types, t) {
         TypeData::Felt => capped(used + 4),
@@ -139,7 +142,7 @@ fn measure_list(file: &[u8], types: &[u32], holder: u32, list: &[u32], used: usi
 }
 
 // The length of a type's text, where all over 4,096 count as 4,097.
-pub fn text_length(file: &[u8], types: &[u32], t: u32) -> usize
+fn text_length(file: &[u8], types: &[u32], t: u32) -> usize
     requires { ⌜ Sound (now file) (now types) ⌝ }
     requires { ⌜ TableOk (table-of (now file) (now types)) ⌝ }
     ensures { λ r. ⌜ r ≡ min 4097 (length (type-text (table-of (now (file .entry)) (now (types .entry))) t)) ⌝ }
@@ -150,7 +153,7 @@ pub fn text_length(file: &[u8], types: &[u32], t: u32) -> usize
 // ------------------------------------------------------------------ writing
 
 // Writes the text of a type at a place, and returns the place behind it.
-pub fn write_type(file: &[u8], types: &[u32], t: u32, out: &mut [u8], at: usize) -> usize
+fn write_type(file: &[u8], types: &[u32], t: u32, out: &mut [u8], at: usize) -> usize
     requires { ⌜ Sound (now file) (now types) ⌝ }
     requires { ⌜ TableOk (table-of (now file) (now types)) ⌝ }
     requires { ⌜ at + length (type-text (table-of (now file) (now types)) t) ≤ length (now out) ⌝ }

@@ -48,10 +48,16 @@ enum-told : tie.Need-enum-told Inv-loop μ-loop
 enum-told c = search needs
 
 same-length : tie.Need-same-length Inv-loop μ-loop
-same-length c = (c .before .before .before .before .before .before .before .answer-line) .kept .1 .1 .0 ∙ (c .before .before .before .before .before .before .before .before .before .before .before .before .loop) .inv .types-long
+same-length c =
+    let loop = c .before .before .before .before .before .before .before .before .before .before .before .before .loop in
+    let answer-line = c .before .before .before .before .before .before .before .answer-line in
+    answer-line .kept .1 .1 .0 ∙ loop .inv .types-long
 
 same-length-2 : tie.Need-same-length-2 Inv-loop μ-loop
-same-length-2 c = (c .before .before .before .before .before .before .before .answer-line) .kept .1 .1 .1 .0 ∙ (c .before .before .before .before .before .before .before .before .before .before .before .before .loop) .inv .places-long
+same-length-2 c =
+    let loop = c .before .before .before .before .before .before .before .before .before .before .before .before .loop in
+    let answer-line = c .before .before .before .before .before .before .before .answer-line in
+    answer-line .kept .1 .1 .1 .0 ∙ loop .inv .places-long
 
 same-length-3 : tie.Need-same-length-3 Inv-loop μ-loop
 same-length-3 c =

@@ -6,7 +6,6 @@ use Rattle.answers.proofs.Asking.{starts-ready, refused-as, typed-answe
 use borrow.Author.Needs.{needs}
 use Rattle.answers.proofs.answer_question.Statement.{statement}
 use Rattle.answers.proofs.answer_question.Tie as tie
-use Rattle.type_table.proofs.clear.Reads as clear-reads′
 
 start-requires : tie.Need-start-requires
 start-requires c κs = search needs

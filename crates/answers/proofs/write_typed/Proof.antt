@@ -104,11 +104,8 @@ same-length c = search needs
 returns-2 : tie.Need-returns-2
 returns-2 c =
     let a = (c .before .before .before .before .before .before .before .before .before .before .before .before .before .before .before .before .before .args) in
-    let lead = question-lead (question-of (a .question)) in
-    let one = (c .before .before .before .before .before .before .before .before .before .before .before .before .put-lead) in
     let two = (c .before .before .before .before .before .before .before .before .put) in
     let text = type-text (table-of (a .file .now) (a .types .now)) (a .t) in
-    let all = wrote-then lead (bytes "type\t") _ _ _ _ _ _ zero-le (one .ensures .wrote) (two .ensures) in
     let over = too-long ((c .before .before .before .before .write-text) .ensures) ((c .enum-told) .given .1) in
     record { is = verdict-refused text (over .0); same = ap (putMid (two .result) (length (a .out .now) - 1 - two .result) (a .out .now)) (over .1) ∙ put-same (two .result) (length (a .out .now) - 1 - two .result) (a .out .now) }
 

@@ -26,7 +26,11 @@ same-demand-requires : tie.Need-same-demand-requires Inv-loop μ-loop
 same-demand-requires c κs = search needs
 
 returns : tie.Need-returns Inv-loop μ-loop
-returns c = open-found _ _ _ _ _ (c .before .same-demand .ensures ∙ ap (λ p. eq-demand (demand-of (c .before .before .before .before .before .args .d)) (demand-of p)) (c .before .before .demand-at .ensures)) (c .if1 .taken) (c .before .before .before .loop-test .taken)
+returns c =
+    let args = c .before .before .before .before .before .args in
+    let loop-test = c .before .before .before .loop-test in
+    let demand-at = c .before .before .demand-at in
+    open-found _ _ _ _ _ (c .before .same-demand .ensures ∙ ap (λ p. eq-demand (demand-of (args .d)) (demand-of p)) (demand-at .ensures)) (c .if1 .taken) (loop-test .taken)
 
 add-i : tie.Need-add-i Inv-loop μ-loop
 add-i c = omega arith

@@ -15,16 +15,30 @@ returns : tie.Need-returns
 returns c = kinds-differ _ _ (λ e. (c .if1) .taken (c .before .before .kind-of .ensures ∙ e ∙ sym (c .before .kind-of2 .ensures)))
 
 returns-2 : tie.Need-returns-2
-returns-2 c = modules-differ _ _ (sym (c .before .before .before .before .before .kind-of .ensures) ∙ c .before .before .before .if1 .left ∙ c .before .before .before .before .kind-of2 .ensures) (c .if2 .taken)
+returns-2 c =
+    let kind-of = c .before .before .before .before .before .kind-of in
+    let kind-of2 = c .before .before .before .before .kind-of2 in
+    let if1 = c .before .before .before .if1 in
+    modules-differ _ _ (sym (kind-of .ensures) ∙ if1 .left ∙ kind-of2 .ensures) (c .if2 .taken)
 
 returns-3 : tie.Need-returns-3
-returns-3 c = records-differ _ _ (sym (c .before .before .before .before .before .before .before .before .kind-of .ensures) ∙ c .before .before .before .before .before .before .if1 .left ∙ c .before .before .before .before .before .before .before .kind-of2 .ensures) (c .before .before .before .if2 .left) (c .if3 .taken)
+returns-3 c =
+    let kind-of = c .before .before .before .before .before .before .before .before .kind-of in
+    let kind-of2 = c .before .before .before .before .before .before .before .kind-of2 in
+    let if1 = c .before .before .before .before .before .before .if1 in
+    let if2 = c .before .before .before .if2 in
+    records-differ _ _ (sym (kind-of .ensures) ∙ if1 .left ∙ kind-of2 .ensures) (if2 .left) (c .if3 .taken)
 
 same-more-requires : tie.Need-same-more-requires
 same-more-requires c κs = search needs
 
 returns-4 : tie.Need-returns-4
-returns-4 c = c .same-more .ensures ∙ records-same _ _ (sym (c .before .before .before .before .before .before .before .before .before .kind-of .ensures) ∙ c .before .before .before .before .before .before .before .if1 .left ∙ c .before .before .before .before .before .before .before .before .kind-of2 .ensures) (c .before .before .before .before .if2 .left) (c .before .if3 .left)
+returns-4 c =
+    let kind-of = c .before .before .before .before .before .before .before .before .before .kind-of in
+    let kind-of2 = c .before .before .before .before .before .before .before .before .kind-of2 in
+    let if1 = c .before .before .before .before .before .before .before .if1 in
+    let if2 = c .before .before .before .before .if2 in
+    c .same-more .ensures ∙ records-same _ _ (sym (kind-of .ensures) ∙ if1 .left ∙ kind-of2 .ensures) (if2 .left) (c .before .if3 .left)
 
 pub same-demand-spec : {M : Type 1} → statement M
 same-demand-spec =

@@ -13,10 +13,18 @@ has-more-requires-2 : tie.Need-has-more-requires-2
 has-more-requires-2 c κs = search needs
 
 returns : tie.Need-returns
-returns c = more-same _ _ true true (sym (c .before .before .before .if1 .taken) ∙ c .before .before .before .before .has-more2 .ensures) (sym (c .before .before .if2 .taken) ∙ c .before .before .before .before .before .has-more .ensures)
+returns c =
+    let has-more = c .before .before .before .before .before .has-more in
+    let has-more2 = c .before .before .before .before .has-more2 in
+    let if1 = c .before .before .before .if1 in
+    let if2 = c .before .before .if2 in
+    more-same _ _ true true (sym (if1 .taken) ∙ has-more2 .ensures) (sym (if2 .taken) ∙ has-more .ensures)
 
 returns-2 : tie.Need-returns-2
-returns-2 c = more-same _ _ true false (sym (c .before .if1 .taken) ∙ c .before .before .has-more2 .ensures) (sym (c .if2 .left) ∙ c .before .before .before .has-more .ensures)
+returns-2 c =
+    let has-more = c .before .before .before .has-more in
+    let has-more2 = c .before .before .has-more2 in
+    more-same _ _ true false (sym (c .before .if1 .taken) ∙ has-more2 .ensures) (sym (c .if2 .left) ∙ has-more .ensures)
 
 returns-3 : tie.Need-returns-3
 returns-3 c = more-same _ _ false _ (sym (c .if1 .left) ∙ c .before .has-more2 .ensures) (c .before .before .has-more .ensures)

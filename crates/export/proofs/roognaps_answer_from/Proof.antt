@@ -54,7 +54,9 @@ same-length-4 : tie.Need-same-length-4
 same-length-4 c = search needs
 
 returns : tie.Need-returns
-returns c = record { answer = (c .before .before .before .before .before .before .before .before .before .before .answer-from) .result; is = sym (ap lines-number ((c .before .next) .given .1)); short = (c .before .before .before .before .before .before .before .before .before .before .answer-from) .ensures .0; full = (c .before .before .before .before .before .before .before .before .before .before .answer-from) .ensures .1 }
+returns c =
+    let answer-from = c .before .before .before .before .before .before .before .before .before .before .answer-from in
+    record { answer = answer-from .result; is = sym (ap lines-number ((c .before .next) .given .1)); short = answer-from .ensures .0; full = answer-from .ensures .1 }
 
 same-length-5 : tie.Need-same-length-5
 same-length-5 c = search needs
@@ -69,7 +71,9 @@ same-length-8 : tie.Need-same-length-8
 same-length-8 c = search needs
 
 returns-2 : tie.Need-returns-2
-returns-2 c = record { answer = (c .before .before .before .before .before .before .before .before .before .before .answer-from) .result; is = sym (ap lines-number ((c .before .bytes) .given .1)); short = (c .before .before .before .before .before .before .before .before .before .before .answer-from) .ensures .0; full = (c .before .before .before .before .before .before .before .before .before .before .answer-from) .ensures .1 }
+returns-2 c =
+    let answer-from = c .before .before .before .before .before .before .before .before .before .before .answer-from in
+    record { answer = answer-from .result; is = sym (ap lines-number ((c .before .bytes) .given .1)); short = answer-from .ensures .0; full = answer-from .ensures .1 }
 
 same-length-9 : tie.Need-same-length-9
 same-length-9 c = search needs
@@ -84,7 +88,9 @@ same-length-12 : tie.Need-same-length-12
 same-length-12 c = search needs
 
 returns-3 : tie.Need-returns-3
-returns-3 c = record { answer = (c .before .before .before .before .before .before .before .before .before .before .answer-from) .result; is = sym (ap lines-number ((c .before .refusal) .given .1)); short = (c .before .before .before .before .before .before .before .before .before .before .answer-from) .ensures .0; full = (c .before .before .before .before .before .before .before .before .before .before .answer-from) .ensures .1 }
+returns-3 c =
+    let answer-from = c .before .before .before .before .before .before .before .before .before .before .answer-from in
+    record { answer = answer-from .result; is = sym (ap lines-number ((c .before .refusal) .given .1)); short = answer-from .ensures .0; full = answer-from .ensures .1 }
 
 pub roognaps-answer-from-spec : {M : Type 1} → statement M
 roognaps-answer-from-spec =

@@ -33,13 +33,17 @@ same-length : tie.Need-same-length
 same-length c = search needs
 
 returns : tie.Need-returns
-returns c = record { loaded = (c .before .before .before .before .load) .result; is = sym (ap loaded-number ((c .enum-told) .given .1)); short = (c .before .before .before .before .load) .ensures .0; full = (c .before .before .before .before .load) .ensures .1 }
+returns c =
+    let load = c .before .before .before .before .load in
+    record { loaded = load .result; is = sym (ap loaded-number ((c .enum-told) .given .1)); short = load .ensures .0; full = load .ensures .1 }
 
 same-length-2 : tie.Need-same-length-2
 same-length-2 c = search needs
 
 returns-2 : tie.Need-returns-2
-returns-2 c = record { loaded = (c .before .before .before .before .before .load) .result; is = sym (ap loaded-number ((c .before .number) .given .1)); short = (c .before .before .before .before .before .load) .ensures .0; full = (c .before .before .before .before .before .load) .ensures .1 }
+returns-2 c =
+    let load = c .before .before .before .before .before .load in
+    record { loaded = load .result; is = sym (ap loaded-number ((c .before .number) .given .1)); short = load .ensures .0; full = load .ensures .1 }
 
 pub roognaps-load-spec : {M : Type 1} → statement M
 roognaps-load-spec =

@@ -4,6 +4,7 @@ mod All
 mod Args
 mod Arr
 mod Array
+mod AstType
 mod Bin
 mod Call
 mod Def
@@ -22,7 +23,6 @@ mod Node
 mod Only
 mod Origin
 mod Rep
-mod AstType
 mod Same
 mod Sig
 mod StructData
@@ -34,11 +34,12 @@ mod Un
 mod Var
 use Rattle.type_resolution.proofs.+all+args+arr+array+ast_type+bin+call+def+def_type+elems+empty+expr_type+fields+fn_signature+index+lit+member+named+new+node+only+origin+rep+same+sig+struct_data+tidx+tup+tuple+ty+un+var.{statement}
 use Rattle.type_resolution.proofs.+all+args+arr+array+ast_type+bin+call+def+def_type+elems+empty+expr_type+fields+fn_signature+index+lit+member+named+new+node+only+origin+rep+same+sig+struct_data+tidx+tup+tuple+ty+un+var.Tie.{close}
-use Measures.{μ-all, μ-args, μ-arr, μ-array, μ-bin, μ-call, μ-def, μ-def-type, μ-elems, μ-empty, μ-expr-type, μ-fields, μ-fn-signature, μ-index, μ-lit, μ-member, μ-named, μ-new, μ-node, μ-only, μ-origin, μ-rep, μ-ast-type, μ-same, μ-sig, μ-struct-data, μ-tidx, μ-tup, μ-tuple, μ-ty, μ-un, μ-var}
+use Measures.{μ-all, μ-args, μ-arr, μ-array, μ-ast-type, μ-bin, μ-call, μ-def, μ-def-type, μ-elems, μ-empty, μ-expr-type, μ-fields, μ-fn-signature, μ-index, μ-lit, μ-member, μ-named, μ-new, μ-node, μ-only, μ-origin, μ-rep, μ-same, μ-sig, μ-struct-data, μ-tidx, μ-tup, μ-tuple, μ-ty, μ-un, μ-var}
 use All.{all-holds}
 use Args.{args-holds}
 use Arr.{arr-holds}
 use Array.{array-holds}
+use AstType.{ast-type-holds}
 use Bin.{bin-holds}
 use Call.{call-holds}
 use Def.{def-holds}
@@ -57,7 +58,6 @@ use Node.{node-holds}
 use Only.{only-holds}
 use Origin.{origin-holds}
 use Rep.{rep-holds}
-use AstType.{ast-type-holds}
 use Same.{same-holds}
 use Sig.{sig-holds}
 use StructData.{struct-data-holds}

@@ -37,7 +37,11 @@ same-length-2 : tie.Need-same-length-2
 same-length-2 c = search needs
 
 returns-2 : tie.Need-returns-2
-returns-2 c = question-found _ _ _ ((c .before .before .before .before .before .before .before .before .before .before .before .before .before .expression-in) .ensures) ((c .before .before .before .before .before .before .before .before .before .before .before .info) .given .1) (then-stop ((c .before .before .before .before .before .before .ast-type) .ensures) _ (is-refused ((c .before .n) .given .1)) (is-refused refl))
+returns-2 c =
+    let expression-in = c .before .before .before .before .before .before .before .before .before .before .before .before .before .expression-in in
+    let info = c .before .before .before .before .before .before .before .before .before .before .before .info in
+    let ast-type = c .before .before .before .before .before .before .ast-type in
+    question-found _ _ _ (expression-in .ensures) (info .given .1) (then-stop (ast-type .ensures) _ (is-refused ((c .before .n) .given .1)) (is-refused refl))
 
 same-length-3 : tie.Need-same-length-3
 same-length-3 c = search needs
@@ -46,7 +50,13 @@ same-length-4 : tie.Need-same-length-4
 same-length-4 c = search needs
 
 returns-3 : tie.Need-returns-3
-returns-3 c = question-found _ _ _ ((c .before .before .before .before .before .before .before .before .before .before .before .before .before .before .before .before .before .before .before .expression-in) .ensures) ((c .before .before .before .before .before .before .before .before .before .before .before .before .before .before .before .before .before .info) .given .1) (then-on ((c .before .before .before .before .before .before .before .before .before .before .before .before .ast-type) .ensures) _ (is-typed ((c .before .before .before .before .before .before .before .context) .given .1)) ((c .before .before .before .expr-type) .ensures))
+returns-3 c =
+    let expression-in = c .before .before .before .before .before .before .before .before .before .before .before .before .before .before .before .before .before .before .before .expression-in in
+    let info = c .before .before .before .before .before .before .before .before .before .before .before .before .before .before .before .before .before .info in
+    let ast-type = c .before .before .before .before .before .before .before .before .before .before .before .before .ast-type in
+    let context = c .before .before .before .before .before .before .before .context in
+    let expr-type = c .before .before .before .expr-type in
+    question-found _ _ _ (expression-in .ensures) (info .given .1) (then-on (ast-type .ensures) _ (is-typed (context .given .1)) (expr-type .ensures))
 
 pub asked-in-spec : {M : Type 1} → statement M
 asked-in-spec =

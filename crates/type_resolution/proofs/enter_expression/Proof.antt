@@ -25,14 +25,20 @@ same-length c = search needs
 
 returns : tie.Need-returns
 unfolding context-by
-returns c = opens-as (ap (λ x. Demand.expression ((c .before .before .before .before .before .before .args) .m) ((c .before .before .before .before .before .before .args) .e .0) (found-type-of x)) (sym ((c .before .before .before .before .context) .given .1))) ((c .before .enter-expression) .ensures)
+returns c =
+    let args = c .before .before .before .before .before .before .args in
+    let context = c .before .before .before .before .context in
+    opens-as (ap (λ x. Demand.expression (args .m) (args .e .0) (found-type-of x)) (sym (context .given .1))) ((c .before .enter-expression) .ensures)
 
 same-length-2 : tie.Need-same-length-2
 same-length-2 c = search needs
 
 returns-2 : tie.Need-returns-2
 unfolding context-by
-returns-2 c = opens-as (ap (λ x. Demand.expression ((c .before .before .before .before .before .args) .m) ((c .before .before .before .before .before .args) .e .0) (found-type-of x)) (sym ((c .before .before .before .enum-told) .given .1))) ((c .before .enter-expression2) .ensures)
+returns-2 c =
+    let args = c .before .before .before .before .before .args in
+    let enum-told = c .before .before .before .enum-told in
+    opens-as (ap (λ x. Demand.expression (args .m) (args .e .0) (found-type-of x)) (sym (enum-told .given .1))) ((c .before .enter-expression2) .ensures)
 
 pub enter-expression-spec : {M : Type 1} → statement M
 enter-expression-spec =

@@ -15,10 +15,15 @@ expression-at-requires : tie.Need-expression-at-requires
 expression-at-requires c κs = search needs
 
 returns : tie.Need-returns
-returns c = record { there = true; module-is = λ file. (c .before .before .has-module) .ensures file ∙ ap (λ b. if b then some (module-row file ((c .before .before .before .before .args) .words .now) ((c .before .before .before .before .args) .m)) else none) ((c .before .if1) .taken); same = λ file. (c .expression-at) .ensures file }
+returns c =
+    let args = c .before .before .before .before .args in
+    let has-module = c .before .before .has-module in
+    record { there = true; module-is = λ file. has-module .ensures file ∙ ap (λ b. if b then some (module-row file (args .words .now) (args .m)) else none) ((c .before .if1) .taken); same = λ file. (c .expression-at) .ensures file }
 
 returns-2 : tie.Need-returns-2
-returns-2 c = record { there = false; module-is = λ file. (c .before .has-module) .ensures file ∙ ap (λ b. if b then some (module-row file ((c .before .before .before .args) .words .now) ((c .before .before .before .args) .m)) else none) ((c .if1) .left); same = λ file. refl }
+returns-2 c =
+    let args = c .before .before .before .args in
+    record { there = false; module-is = λ file. (c .before .has-module) .ensures file ∙ ap (λ b. if b then some (module-row file (args .words .now) (args .m)) else none) ((c .if1) .left); same = λ file. refl }
 
 pub expression-in-spec : {M : Type 1} → statement M
 expression-in-spec =

@@ -23,11 +23,17 @@ numeric-context-requires c κs = search needs
 
 returns : tie.Need-returns
 unfolding numeric-read
-returns c = record { same = λ file. ap (λ o. let-some o (numeric-context (table-of file ((c .before .before .before .before .before .args) .types .now)) (found-type-of ((c .before .before .before .before .before .args) .context))) (λ n. n)) (sym (ap found-type-of ((c .before .n) .given .1)) ∙ (c .before .before .before .numeric) .ensures file .same) }
+returns c =
+    let args = c .before .before .before .before .before .args in
+    let numeric = c .before .before .before .numeric in
+    record { same = λ file. ap (λ o. let-some o (numeric-context (table-of file (args .types .now)) (found-type-of (args .context))) (λ n. n)) (sym (ap found-type-of ((c .before .n) .given .1)) ∙ numeric .ensures file .same) }
 
 returns-2 : tie.Need-returns-2
 unfolding numeric-read numeric-context-read
-returns-2 c = record { same = λ file. (c .numeric-context) .ensures file .same ∙ ap (λ o. let-some o (numeric-context (table-of file ((c .before .before .before .before .before .args) .types .now)) (found-type-of ((c .before .before .before .before .before .args) .context))) (λ n. n)) (sym (ap found-type-of ((c .before .enum-told) .given .1)) ∙ (c .before .before .before .numeric) .ensures file .same) }
+returns-2 c =
+    let args = c .before .before .before .before .before .args in
+    let numeric = c .before .before .before .numeric in
+    record { same = λ file. (c .numeric-context) .ensures file .same ∙ ap (λ o. let-some o (numeric-context (table-of file (args .types .now)) (found-type-of (args .context))) (λ n. n)) (sym (ap found-type-of ((c .before .enum-told) .given .1)) ∙ numeric .ensures file .same) }
 
 pub numeric-or-spec : {M : Type 1} → statement M
 numeric-or-spec =

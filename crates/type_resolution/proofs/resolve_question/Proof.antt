@@ -40,7 +40,11 @@ same-length-2 c = search needs
 
 returns : tie.Need-returns
 unfolding question-program
-returns c = by-question _ ((c .before .before .before .before .before .before .before .before .before .question) .given .1) (by-context _ _ _ _ _ ((c .before .before .before .before .before .before .enum-told) .given .1) ((c .before .before .before .expr-type) .ensures))
+returns c =
+    let question = c .before .before .before .before .before .before .before .before .before .question in
+    let enum-told = c .before .before .before .before .before .before .enum-told in
+    let expr-type = c .before .before .before .expr-type in
+    by-question _ (question .given .1) (by-context _ _ _ _ _ (enum-told .given .1) (expr-type .ensures))
 
 same-length-3 : tie.Need-same-length-3
 same-length-3 c = search needs
@@ -50,7 +54,11 @@ same-length-4 c = search needs
 
 returns-2 : tie.Need-returns-2
 unfolding question-program
-returns-2 c = by-question _ ((c .before .before .before .before .before .before .before .before .before .before .question) .given .1) (by-context _ _ _ _ _ ((c .before .before .before .before .before .before .before .context) .given .1) ((c .before .before .before .asked-in) .ensures))
+returns-2 c =
+    let question = c .before .before .before .before .before .before .before .before .before .before .question in
+    let context = c .before .before .before .before .before .before .before .context in
+    let asked-in = c .before .before .before .asked-in in
+    by-question _ (question .given .1) (by-context _ _ _ _ _ (context .given .1) (asked-in .ensures))
 
 same-length-5 : tie.Need-same-length-5
 same-length-5 c = search needs

@@ -23,13 +23,18 @@ enum-known-signature-2 : tie.Need-enum-known-signature-2
 enum-known-signature-2 c = search needs
 
 returns : tie.Need-returns
-returns c = record { same = λ file. (c .linked-type) .ensures ∙ ap linked-by ((c .before .return-type) .ensures file .same) ∙ sym (ap (λ x. read-of return-read x (table-of file ((c .before .before .before .before .before .before .args) .types .now))) ((c .before .before .before .signature) .given .1)) }
+returns c =
+    let args = c .before .before .before .before .before .before .args in
+    let signature = c .before .before .before .signature in
+    record { same = λ file. (c .linked-type) .ensures ∙ ap linked-by ((c .before .return-type) .ensures file .same) ∙ sym (ap (λ x. read-of return-read x (table-of file (args .types .now))) (signature .given .1)) }
 
 returns-2 : tie.Need-returns-2
 returns-2 c = record { same = λ file. sym (ap (λ x. read-of return-read x (table-of file ((c .before .before .before .args) .types .now))) ((c .enum-told) .given .1)) }
 
 returns-3 : tie.Need-returns-3
-returns-3 c = record { same = λ file. sym (ap (λ x. read-of return-read x (table-of file ((c .before .before .before .before .args) .types .now))) ((c .before .signature2) .given .1)) }
+returns-3 c =
+    let args = c .before .before .before .before .args in
+    record { same = λ file. sym (ap (λ x. read-of return-read x (table-of file (args .types .now))) ((c .before .signature2) .given .1)) }
 
 pub returned-spec : {M : Type 1} → statement M
 returned-spec =

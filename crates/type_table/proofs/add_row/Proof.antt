@@ -68,7 +68,11 @@ slice-write-types-2 : tie.Need-slice-write-types-2
 slice-write-types-2 c = simp length-set (omega (arith, c .before .before .copy-to3 .ensures .same-length, c .before .before .before .before .before .before .copy-to2 .ensures .same-length, c .before .before .before .before .before .before .before .before .before .before .copy-to .ensures .same-length))
 
 same-length : tie.Need-same-length
-same-length c = simp length-set (c .before .before .copy-to3 .ensures .same-length ∙ c .before .before .before .before .before .before .copy-to2 .ensures .same-length ∙ c .before .before .before .before .before .before .before .before .before .before .copy-to .ensures .same-length)
+same-length c =
+    let copy-to = c .before .before .before .before .before .before .before .before .before .before .copy-to in
+    let copy-to2 = c .before .before .before .before .before .before .copy-to2 in
+    let copy-to3 = c .before .before .copy-to3 in
+    simp length-set (copy-to3 .ensures .same-length ∙ copy-to2 .ensures .same-length ∙ copy-to .ensures .same-length)
 
 returns : tie.Need-returns
 returns c =

@@ -71,7 +71,10 @@ returns-5 c = record { same = λ file. by-kind (c .before) file 3 (c .match .key
 
 returns-6 : tie.Need-returns-6
 unfolding data-by
-returns-6 c = record { same = λ file. ap₂ (λ x y. TypeData.Tuple (items-from (c .before .before .before .before .before .before .before .args .types .now) x y)) (c .before .before .word-at2 .ensures) (c .before .word-at3 .ensures) ∙ by-kind (c .before) file 5 (c .match .keys5); within = λ file sound. within (c .before) file sound }
+returns-6 c =
+    let args = c .before .before .before .before .before .before .before .args in
+    let word-at2 = c .before .before .word-at2 in
+    record { same = λ file. ap₂ (λ x y. TypeData.Tuple (items-from (args .types .now) x y)) (word-at2 .ensures) (c .before .word-at3 .ensures) ∙ by-kind (c .before) file 5 (c .match .keys5); within = λ file sound. within (c .before) file sound }
 
 returns-7 : tie.Need-returns-7
 unfolding data-by
@@ -96,7 +99,11 @@ returns-9 c =
 
 returns-10 : tie.Need-returns-10
 unfolding data-by
-returns-10 c = record { same = λ file. ap₂ (λ x y. TypeData.Function (c .before .before .before .head-of .result .home) (c .before .before .before .head-of .result .definition) (items-from (c .before .before .before .before .before .before .before .args .types .now) x y) (c .before .before .before .head-of .result .element)) (c .before .before .word-at2 .ensures) (c .before .word-at3 .ensures) ∙ by-kind (c .before) file 9 (c .match .keys9); within = λ file sound. within (c .before) file sound }
+returns-10 c =
+    let args = c .before .before .before .before .before .before .before .args in
+    let head-of = c .before .before .before .head-of in
+    let word-at2 = c .before .before .word-at2 in
+    record { same = λ file. ap₂ (λ x y. TypeData.Function (head-of .result .home) (head-of .result .definition) (items-from (args .types .now) x y) (head-of .result .element)) (word-at2 .ensures) (c .before .word-at3 .ensures) ∙ by-kind (c .before) file 9 (c .match .keys9); within = λ file sound. within (c .before) file sound }
 
 returns-11 : tie.Need-returns-11
 returns-11 c = record { same = λ file. sym (no-kind file _ _ _ _ (c .match .rest .0 .0 .0 .0 .0 .0 .0 .0 .1) (c .match .rest .0 .0 .0 .0 .0 .0 .0 .1) (c .match .rest .0 .0 .0 .0 .0 .0 .1) (c .match .rest .0 .0 .0 .0 .0 .1) (c .match .rest .0 .0 .0 .0 .1) (c .match .rest .0 .0 .0 .1) (c .match .rest .0 .0 .1) (c .match .rest .0 .1) (c .match .rest .1)) ∙ by-kind (c .before) file _ refl; within = λ file sound. zero-le }

@@ -34,7 +34,10 @@ words-from-requires : tie.Need-words-from-requires
 words-from-requires c κs = search needs
 
 returns : tie.Need-returns
-returns c = c .words-from .ensures ∙ ap₂ (λ x y. part (c .before .before .before .before .args .types .now) (2050 + x) y) (c .before .before .word-at .ensures) (c .before .word-at2 .ensures)
+returns c =
+    let args = c .before .before .before .before .args in
+    let word-at = c .before .before .word-at in
+    c .words-from .ensures ∙ ap₂ (λ x y. part (args .types .now) (2050 + x) y) (word-at .ensures) (c .before .word-at2 .ensures)
 
 pub items-of-spec : {M : Type 1} → statement M
 items-of-spec =

@@ -19,7 +19,10 @@ same-head-requires c κs = search needs
 
 returns : tie.Need-returns
 unfolding same-rows
-returns c = stop _ _ (ap (same-heads (c .before .before .before .before .before .before .before .args .head)) (sym (c .before .before .head-of .ensures)) ∙ sym (c .before .same-head .ensures) ∙ not-true _ (c .if1 .taken))
+returns c =
+    let args = c .before .before .before .before .before .before .before .args in
+    let head-of = c .before .before .head-of in
+    stop _ _ (ap (same-heads (args .head)) (sym (head-of .ensures)) ∙ sym (c .before .same-head .ensures) ∙ not-true _ (c .if1 .taken))
 
 items-of-requires : tie.Need-items-of-requires
 items-of-requires c κs = search needs

@@ -18,11 +18,17 @@ enum-told-2 c = search needs
 
 returns : tie.Need-returns
 unfolding struct-or-error
-returns c = λ file. record { same = some-read 4 (λ fields. c .before .before .before .before .args .t) (c .before .before .struct-of .ensures file) (ap (found-fields-of file (c .before .before .before .before .args .types .now)) (c .enum-told .given .1)) }
+returns c =
+    let args = c .before .before .before .before .args in
+    let struct-of = c .before .before .struct-of in
+    λ file. record { same = some-read 4 (λ fields. args .t) (struct-of .ensures file) (ap (found-fields-of file (args .types .now)) (c .enum-told .given .1)) }
 
 returns-2 : tie.Need-returns-2
 unfolding struct-or-error
-returns-2 c = λ file. record { same = none-read 4 (λ fields. c .before .before .before .before .args .t) (c .before .before .struct-of .ensures file) (ap (found-fields-of file (c .before .before .before .before .args .types .now)) (c .enum-told2 .given .1)) }
+returns-2 c =
+    let args = c .before .before .before .before .args in
+    let struct-of = c .before .before .struct-of in
+    λ file. record { same = none-read 4 (λ fields. args .t) (struct-of .ensures file) (ap (found-fields-of file (args .types .now)) (c .enum-told2 .given .1)) }
 
 pub struct-or-error-spec : {M : Type 1} → statement M
 struct-or-error-spec =

@@ -24,19 +24,32 @@ enum-told-2 : tie.Need-enum-told-2
 enum-told-2 c = search needs
 
 returns-2 : tie.Need-returns-2
-returns-2 c = record { same = callee-lost _ _ _ (c .before .before .before .before .callee .given .1) (no-expression _ _ _ _ (c .before .before .expression-at .ensures _) (c .enum-told2 .given .1)) }
+returns-2 c =
+    let callee = c .before .before .before .before .callee in
+    let expression-at = c .before .before .expression-at in
+    record { same = callee-lost _ _ _ (callee .given .1) (no-expression _ _ _ _ (expression-at .ensures _) (c .enum-told2 .given .1)) }
 
 enum-known-node : tie.Need-enum-known-node
 enum-known-node c = search needs
 
 returns-3 : tie.Need-returns-3
-returns-3 c = record { same = callee-other _ _ _ (c .before .before .before .before .before .before .callee .given .1) _ (an-expression _ _ _ _ (c .before .before .before .before .expression-at .ensures _) _ (c .before .before .callee-info .given .1)) (other-than-identifier (c .before .before .before .before .before .before .before .before .before .before .args .file .now) (c .before .before .before .before .before .before .before .before .before .before .args .words .now) (c .before .before .callee-info .given .0 .0 .node) (c .match3 .keys2)) }
+returns-3 c =
+    let args = c .before .before .before .before .before .before .before .before .before .before .args in
+    let callee = c .before .before .before .before .before .before .callee in
+    let expression-at = c .before .before .before .before .expression-at in
+    let callee-info = c .before .before .callee-info in
+    record { same = callee-other _ _ _ (callee .given .1) _ (an-expression _ _ _ _ (expression-at .ensures _) _ (callee-info .given .1)) (other-than-identifier (args .file .now) (args .words .now) (callee-info .given .0 .0 .node) (c .match3 .keys2)) }
 
 is-builtin-function-name-requires : tie.Need-is-builtin-function-name-requires
 is-builtin-function-name-requires c κs = search needs
 
 returns-4 : tie.Need-returns-4
-returns-4 c = record { same = callee-named _ _ _ (c .before .before .before .before .before .before .before .before .before .callee .given .1) _ _ _ (an-expression _ _ _ _ (c .before .before .before .before .before .before .before .expression-at .ensures _) _ (c .before .before .before .before .before .callee-info .given .1)) (an-identifier _ _ _ _ (c .before .before .node .given .1)) (c .is-builtin-function-name .ensures) }
+returns-4 c =
+    let callee = c .before .before .before .before .before .before .before .before .before .callee in
+    let expression-at = c .before .before .before .before .before .before .before .expression-at in
+    let callee-info = c .before .before .before .before .before .callee-info in
+    let node = c .before .before .node in
+    record { same = callee-named _ _ _ (callee .given .1) _ _ _ (an-expression _ _ _ _ (expression-at .ensures _) _ (callee-info .given .1)) (an-identifier _ _ _ _ (node .given .1)) (c .is-builtin-function-name .ensures) }
 
 pub callee-is-builtin-spec : {M : Type 1} → statement M
 callee-is-builtin-spec =

@@ -28,7 +28,12 @@ item-value-requires : tie.Need-item-value-requires Inv-loop μ-loop
 item-value-requires c κs = search needs
 
 returns : tie.Need-returns Inv-loop μ-loop
-returns c = sym (c .before .before .before .before .before .loop .inv ∙ type-hit _ _ _ _ _ _ (c .before .before .before .before .loop-test .taken) _ _ (c .before .before .before .item-name .ensures _) (c .before .before .same-name .ensures) _ (c .before .if1 .taken) (c .item-value .ensures))
+returns c =
+    let loop = c .before .before .before .before .before .loop in
+    let loop-test = c .before .before .before .before .loop-test in
+    let item-name = c .before .before .before .item-name in
+    let same-name = c .before .before .same-name in
+    sym (loop .inv ∙ type-hit _ _ _ _ _ _ (loop-test .taken) _ _ (item-name .ensures _) (same-name .ensures) _ (c .before .if1 .taken) (c .item-value .ensures))
 
 add-i : tie.Need-add-i Inv-loop μ-loop
 add-i c = search needs
@@ -37,7 +42,11 @@ loop-less : tie.Need-loop-less Inv-loop μ-loop
 loop-less c = search needs
 
 loop-again : tie.Need-loop-again Inv-loop μ-loop
-loop-again c = (c .before .before .before .before .loop .inv) ∙ type-miss _ _ _ _ _ _ (c .before .before .before .loop-test .taken) _ _ (c .before .before .item-name .ensures _) (c .before .same-name .ensures) (c .if1 .left)
+loop-again c =
+    let loop = c .before .before .before .before .loop in
+    let loop-test = c .before .before .before .loop-test in
+    let item-name = c .before .before .item-name in
+    (loop .inv) ∙ type-miss _ _ _ _ _ _ (loop-test .taken) _ _ (item-name .ensures _) (c .before .same-name .ensures) (c .if1 .left)
 
 returns-2 : tie.Need-returns-2 Inv-loop μ-loop
 returns-2 c = sym (c .before .loop .inv ∙ type-end _ _ _ _ _ _ (c .loop-test .left))

@@ -20,7 +20,10 @@ is-array-expr-requires : tie.Need-is-array-expr-requires
 is-array-expr-requires c κs = search needs
 
 returns-2 : tie.Need-returns-2
-returns-2 c = record { same = λ file. array-found _ _ _ _ (a-type-expr file _ _ _ (c .before .before .before .before .type-expr-at .ensures file) _ (c .before .before .type-expr .given .1)) (c .is-array-expr .ensures file _) }
+returns-2 c =
+    let type-expr-at = c .before .before .before .before .type-expr-at in
+    let type-expr = c .before .before .type-expr in
+    record { same = λ file. array-found _ _ _ _ (a-type-expr file _ _ _ (type-expr-at .ensures file) _ (type-expr .given .1)) (c .is-array-expr .ensures file _) }
 
 pub names-array-expr-spec : {M : Type 1} → statement M
 names-array-expr-spec =

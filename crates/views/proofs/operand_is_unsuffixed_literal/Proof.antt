@@ -20,7 +20,10 @@ is-unsuffixed-literal-requires : tie.Need-is-unsuffixed-literal-requires
 is-unsuffixed-literal-requires c κs = search needs
 
 returns-2 : tie.Need-returns-2
-returns-2 c = λ file. operand-found _ _ _ _ (an-expression file _ _ _ (c .before .before .before .before .expression-at .ensures file) _ (c .before .before .operand .given .1)) (c .is-unsuffixed-literal .ensures .same file _)
+returns-2 c =
+    let expression-at = c .before .before .before .before .expression-at in
+    let operand = c .before .before .operand in
+    λ file. operand-found _ _ _ _ (an-expression file _ _ _ (expression-at .ensures file) _ (operand .given .1)) (c .is-unsuffixed-literal .ensures .same file _)
 
 pub operand-is-unsuffixed-literal-spec : {M : Type 1} → statement M
 operand-is-unsuffixed-literal-spec =

@@ -14,7 +14,9 @@ returns : tie.Need-returns
 returns c = a-struct _ _ _ _ _ _ (c .before .before .kind .given .1) (c .field-type .ensures)
 
 returns-2 : tie.Need-returns-2
-returns-2 c = other-than-struct (c .before .before .before .args .file .now) (c .before .before .before .args .words .now) _ (c .before .before .before .args .kind) (c .match .keys2)
+returns-2 c =
+    let args = c .before .before .before .args in
+    other-than-struct (args .file .now) (args .words .now) _ (args .kind) (c .match .keys2)
 
 pub struct-field-spec : {M : Type 1} → statement M
 struct-field-spec = tie.close (tie.spec enum-known-kind field-type-requires returns returns-2)

@@ -30,13 +30,45 @@ fn-signature-holds t =
     (λ c κs. search needs)  -- function-parts-requires
     (λ c. search needs)  -- enum-told-2
     (λ c. search needs)  -- enum-known-t
-    (λ c κs. (enter-falls 2 (omega arith) ((c .before .before .before .before .before .before .before .before .before .before .before .before .before .before .before .enter-signature) .ensures) ((c .before .before .before .before .before .before .before .before .before .before .before .before .next) .given .1) (sym ((c .before .before .before .before .before .before .before .before .before .before .before .before .before .before .before .before .before .before .before .before .pre) .0)), ((entered-ready ((c .before .before .before .before .before .before .before .before .before .before .before .before .before .before .before .before .before .before .before .before .pre) .1) ((c .before .before .before .before .before .before .before .before .before .before .before .before .before .before .before .enter-signature) .ensures) ((c .before .before .before .before .before .before .before .before .before .before .before .before .next) .given .1)), short-params ((c .before .before .before .before .before .before .before .before .before .before .before .before .before .before .before .before .before .before .before .before .pre) .1) ((c .before .before .before .before .before .before .before .before .before .before .definition-in) .ensures) ((c .before .before .before .before .before .before .before .before .x) .given .1) ((c .before .before .before .before .before .function-parts) .ensures) ((c .before .before .before .t) .given .1))))  -- sig-requires
+    (λ c κs.
+    let pre = c .before .before .before .before .before .before .before .before .before .before .before .before .before .before .before .before .before .before .before .before .pre in
+    let enter-signature = c .before .before .before .before .before .before .before .before .before .before .before .before .before .before .before .enter-signature in
+    let next = c .before .before .before .before .before .before .before .before .before .before .before .before .next in
+    let definition-in = c .before .before .before .before .before .before .before .before .before .before .definition-in in
+    let x = c .before .before .before .before .before .before .before .before .x in
+    let function-parts = c .before .before .before .before .before .function-parts in
+    let t = c .before .before .before .t in
+    (enter-falls 2 (omega arith) (enter-signature .ensures) (next .given .1) (sym (pre .0)), ((entered-ready (pre .1) (enter-signature .ensures) (next .given .1)), short-params (pre .1) (definition-in .ensures) (x .given .1) (function-parts .ensures) (t .given .1))))  -- sig-requires
     (λ c. search needs)  -- same-length
-    (λ c. entered-stops ((c .before .before .before .before .before .before .before .before .before .pre) .1) ((c .before .before .before .before .enter-signature) .ensures) ((c .before .n) .given .1) (not-linked refl))  -- returns
+    (λ c.
+    let pre = c .before .before .before .before .before .before .before .before .before .pre in
+    let enter-signature = c .before .before .before .before .enter-signature in
+    entered-stops (pre .1) (enter-signature .ensures) ((c .before .n) .given .1) (not-linked refl))  -- returns
     (λ c. search needs)  -- same-length-2
-    (λ c. entered-runs ((c .before .before .before .before .before .before .before .before .before .before .before .before .pre) .1) ((c .before .before .before .before .before .before .before .enter-signature) .ensures) ((c .before .before .before .before .next) .given .1) (signature-absent (entered-ready ((c .before .before .before .before .before .before .before .before .before .before .before .before .pre) .1) ((c .before .before .before .before .before .before .before .enter-signature) .ensures) ((c .before .before .before .before .next) .given .1)) _ _ ((c .before .before .definition-in) .ensures) ((c .enum-told) .given .1)))  -- returns-2
+    (λ c.
+    let pre = c .before .before .before .before .before .before .before .before .before .before .before .before .pre in
+    let enter-signature = c .before .before .before .before .before .before .before .enter-signature in
+    let next = c .before .before .before .before .next in
+    let definition-in = c .before .before .definition-in in
+    entered-runs (pre .1) (enter-signature .ensures) (next .given .1) (signature-absent (entered-ready (pre .1) (enter-signature .ensures) (next .given .1)) _ _ (definition-in .ensures) ((c .enum-told) .given .1)))  -- returns-2
     (λ c. search needs)  -- same-length-3
-    (λ c. entered-runs ((c .before .before .before .before .before .before .before .before .before .before .before .before .before .before .before .before .before .pre) .1) ((c .before .before .before .before .before .before .before .before .before .before .before .before .enter-signature) .ensures) ((c .before .before .before .before .before .before .before .before .before .next) .given .1) (signature-found _ _ ((c .before .before .before .before .before .before .before .definition-in) .ensures) ((c .before .before .before .before .before .x) .given .1) (no-function (entered-ready ((c .before .before .before .before .before .before .before .before .before .before .before .before .before .before .before .before .before .pre) .1) ((c .before .before .before .before .before .before .before .before .before .before .before .before .enter-signature) .ensures) ((c .before .before .before .before .before .before .before .before .before .next) .given .1)) _ _ _ _ ((c .before .before .function-parts) .ensures) ((c .enum-told2) .given .1))))  -- returns-3
+    (λ c.
+    let pre = c .before .before .before .before .before .before .before .before .before .before .before .before .before .before .before .before .before .pre in
+    let enter-signature = c .before .before .before .before .before .before .before .before .before .before .before .before .enter-signature in
+    let next = c .before .before .before .before .before .before .before .before .before .next in
+    let definition-in = c .before .before .before .before .before .before .before .definition-in in
+    let x = c .before .before .before .before .before .x in
+    let function-parts = c .before .before .function-parts in
+    entered-runs (pre .1) (enter-signature .ensures) (next .given .1) (signature-found _ _ (definition-in .ensures) (x .given .1) (no-function (entered-ready (pre .1) (enter-signature .ensures) (next .given .1)) _ _ _ _ (function-parts .ensures) ((c .enum-told2) .given .1))))  -- returns-3
     (λ c. search needs)  -- same-length-4
     (λ c. search needs)  -- same-length-5
-    (λ c. entered-runs ((c .before .before .before .before .before .before .before .before .before .before .before .before .before .before .before .before .before .before .before .before .before .before .before .before .pre) .1) ((c .before .before .before .before .before .before .before .before .before .before .before .before .before .before .before .before .before .before .before .enter-signature) .ensures) ((c .before .before .before .before .before .before .before .before .before .before .before .before .before .before .before .before .next) .given .1) (signature-found _ _ ((c .before .before .before .before .before .before .before .before .before .before .before .before .before .before .definition-in) .ensures) ((c .before .before .before .before .before .before .before .before .before .before .before .before .x) .given .1) (function-parted _ _ _ _ _ _ ((c .before .before .before .before .before .before .before .before .before .function-parts) .ensures) ((c .before .before .before .before .before .before .before .t) .given .1) ((c .before .before .before .sig) .ensures))))  -- returns-4
+    (λ c.
+    let pre = c .before .before .before .before .before .before .before .before .before .before .before .before .before .before .before .before .before .before .before .before .before .before .before .before .pre in
+    let enter-signature = c .before .before .before .before .before .before .before .before .before .before .before .before .before .before .before .before .before .before .before .enter-signature in
+    let next = c .before .before .before .before .before .before .before .before .before .before .before .before .before .before .before .before .next in
+    let definition-in = c .before .before .before .before .before .before .before .before .before .before .before .before .before .before .definition-in in
+    let x = c .before .before .before .before .before .before .before .before .before .before .before .before .x in
+    let function-parts = c .before .before .before .before .before .before .before .before .before .function-parts in
+    let t = c .before .before .before .before .before .before .before .t in
+    let sig = c .before .before .before .sig in
+    entered-runs (pre .1) (enter-signature .ensures) (next .given .1) (signature-found _ _ (definition-in .ensures) (x .given .1) (function-parted _ _ _ _ _ _ (function-parts .ensures) (t .given .1) (sig .ensures))))  -- returns-4

@@ -6,10 +6,10 @@ use Rattle.type_resolution.proofs.all.Reads as all
 use Rattle.type_resolution.proofs.all.Kinds as all-kinds
 use Rattle.type_resolution.proofs.args.Reads as args
 use Rattle.type_resolution.proofs.args.Kinds as args-kinds
-use Rattle.type_resolution.proofs.arr.Reads as arr
-use Rattle.type_resolution.proofs.arr.Kinds as arr-kinds
 use Rattle.type_resolution.proofs.array.Reads as array
 use Rattle.type_resolution.proofs.array.Kinds as array-kinds
+use Rattle.type_resolution.proofs.arr.Reads as arr
+use Rattle.type_resolution.proofs.arr.Kinds as arr-kinds
 use Rattle.type_resolution.proofs.bin.Reads as bin
 use Rattle.type_resolution.proofs.bin.Kinds as bin-kinds
 use Rattle.type_resolution.proofs.call.Reads as call
@@ -85,23 +85,23 @@ args-at t = and 4 args-kinds.ps (is 4 args-kinds.ps μ-args t) args.Pre
 abbrev pub args-below : ℕ → In 4 args-kinds.ps
 args-below t = and 4 args-kinds.ps (falls 4 args-kinds.ps _<_ μ-args t) args.Pre
 
-abbrev pub μ-arr : Measures 4 arr-kinds.ps ℕ
-μ-arr κs a = 8 * (256 - a .1 .1 .1 .1 .0) + 1
-
-abbrev pub arr-at : ℕ → In 4 arr-kinds.ps
-arr-at t = and 4 arr-kinds.ps (is 4 arr-kinds.ps μ-arr t) arr.Pre
-
-abbrev pub arr-below : ℕ → In 4 arr-kinds.ps
-arr-below t = and 4 arr-kinds.ps (falls 4 arr-kinds.ps _<_ μ-arr t) arr.Pre
-
 abbrev pub μ-array : Measures 4 array-kinds.ps ℕ
-μ-array κs a = 8 * (256 - a .1 .1 .1 .1 .0) + 2
+μ-array κs a = 8 * (256 - a .1 .1 .1 .1 .0) + 1
 
 abbrev pub array-at : ℕ → In 4 array-kinds.ps
 array-at t = and 4 array-kinds.ps (is 4 array-kinds.ps μ-array t) array.Pre
 
 abbrev pub array-below : ℕ → In 4 array-kinds.ps
 array-below t = and 4 array-kinds.ps (falls 4 array-kinds.ps _<_ μ-array t) array.Pre
+
+abbrev pub μ-arr : Measures 4 arr-kinds.ps ℕ
+μ-arr κs a = 8 * (256 - a .1 .1 .1 .1 .0) + 2
+
+abbrev pub arr-at : ℕ → In 4 arr-kinds.ps
+arr-at t = and 4 arr-kinds.ps (is 4 arr-kinds.ps μ-arr t) arr.Pre
+
+abbrev pub arr-below : ℕ → In 4 arr-kinds.ps
+arr-below t = and 4 arr-kinds.ps (falls 4 arr-kinds.ps _<_ μ-arr t) arr.Pre
 
 abbrev pub μ-bin : Measures 4 bin-kinds.ps ℕ
 μ-bin κs a = 8 * (256 - a .1 .1 .1 .1 .0) + 1

@@ -10,7 +10,7 @@ use Rattle.type_resolution.specs.Shapes.{repeat-in, ShortNode}
 use Prim.Native.Nat.{ℕ}
 use native.Mathlib.Omega.{arith}
 use borrow.Author.Needs.{needs}
-use Rattle.type_resolution.proofs.array.Reads as array
+use Rattle.type_resolution.proofs.arr.Reads as arr
 use Rattle.type_resolution.proofs.bin.Reads as bin
 use Rattle.type_resolution.proofs.call.Reads as call
 use Rattle.type_resolution.proofs.def_type.Reads as def-type
@@ -30,13 +30,13 @@ use Rattle.type_resolution.proofs.tidx.Reads as tidx
 use Rattle.type_resolution.proofs.tuple.Reads as tuple
 use Rattle.type_resolution.proofs.un.Reads as un
 use Rattle.type_resolution.proofs.+all+args+arr+array+ast_type+bin+call+def+def_type+elems+empty+expr_type+fields+fn_signature+index+lit+member+named+new+node+only+origin+rep+same+sig+struct_data+tidx+tup+tuple+ty+un+var.Lts-node as lts
-use Rattle.type_resolution.proofs.+all+args+arr+array+ast_type+bin+call+def+def_type+elems+empty+expr_type+fields+fn_signature+index+lit+member+named+new+node+only+origin+rep+same+sig+struct_data+tidx+tup+tuple+ty+un+var.Proof.Measures.{node-at, array-below, bin-below, call-below, def-type-below, expr-type-below, index-below, lit-below, member-below, named-below, new-below, rep-below, ast-type-below, tidx-below, tuple-below, un-below}
+use Rattle.type_resolution.proofs.+all+args+arr+array+ast_type+bin+call+def+def_type+elems+empty+expr_type+fields+fn_signature+index+lit+member+named+new+node+only+origin+rep+same+sig+struct_data+tidx+tup+tuple+ty+un+var.Proof.Measures.{node-at, arr-below, bin-below, call-below, def-type-below, expr-type-below, index-below, lit-below, member-below, named-below, new-below, rep-below, ast-type-below, tidx-below, tuple-below, un-below}
 
-pub node-holds : {M : Type 1} (t : ℕ) → lts.Closed (lit-below t, lit.Post, is-builtin-function-name-reads.Asked, is-builtin-function-name-reads.Learnt, identifier-definition-reads.Asked, identifier-definition-reads.Learnt, def-type-below t, def-type.Post, un-below t, un.Post, bin-below t, bin.Post, call-below t, call.Post, member-below t, member.Post, index-below t, index.Post, resolve-name-at-position-reads.Asked, resolve-name-at-position-reads.Learnt, named-below t, named.Post, tuple-below t, tuple.Post, tidx-below t, tidx.Post, array-below t, array.Post, rep-below t, rep.Post, ast-type-below t, ast-type.Post, new-below t, new.Post, expr-type-below t, expr-type.Post) (node-at t) node.Post M
+pub node-holds : {M : Type 1} (t : ℕ) → lts.Closed (lit-below t, lit.Post, is-builtin-function-name-reads.Asked, is-builtin-function-name-reads.Learnt, identifier-definition-reads.Asked, identifier-definition-reads.Learnt, def-type-below t, def-type.Post, un-below t, un.Post, bin-below t, bin.Post, call-below t, call.Post, member-below t, member.Post, index-below t, index.Post, resolve-name-at-position-reads.Asked, resolve-name-at-position-reads.Learnt, named-below t, named.Post, tuple-below t, tuple.Post, tidx-below t, tidx.Post, arr-below t, arr.Post, rep-below t, rep.Post, ast-type-below t, ast-type.Post, new-below t, new.Post, expr-type-below t, expr-type.Post) (node-at t) node.Post M
 unfolding node-type parenthesized-type repeat-in
 node-holds t =
     lts.spec
-    (lit-below t, lit.Post, is-builtin-function-name-reads.Asked, is-builtin-function-name-reads.Learnt, identifier-definition-reads.Asked, identifier-definition-reads.Learnt, def-type-below t, def-type.Post, un-below t, un.Post, bin-below t, bin.Post, call-below t, call.Post, member-below t, member.Post, index-below t, index.Post, resolve-name-at-position-reads.Asked, resolve-name-at-position-reads.Learnt, named-below t, named.Post, tuple-below t, tuple.Post, tidx-below t, tidx.Post, array-below t, array.Post, rep-below t, rep.Post, ast-type-below t, ast-type.Post, new-below t, new.Post, expr-type-below t, expr-type.Post)
+    (lit-below t, lit.Post, is-builtin-function-name-reads.Asked, is-builtin-function-name-reads.Learnt, identifier-definition-reads.Asked, identifier-definition-reads.Learnt, def-type-below t, def-type.Post, un-below t, un.Post, bin-below t, bin.Post, call-below t, call.Post, member-below t, member.Post, index-below t, index.Post, resolve-name-at-position-reads.Asked, resolve-name-at-position-reads.Learnt, named-below t, named.Post, tuple-below t, tuple.Post, tidx-below t, tidx.Post, arr-below t, arr.Post, rep-below t, rep.Post, ast-type-below t, ast-type.Post, new-below t, new.Post, expr-type-below t, expr-type.Post)
     (node-at t)
     node.Post
     (λ c. search needs)  -- enum-known-x
@@ -66,7 +66,7 @@ node-holds t =
     (λ c. search needs)  -- enum-known-x-10
     (λ c κs. (omega (arith, (c .before .before .before .before .before .before .before .before .before .pre) .0), ((c .before .before .before .before .before .before .before .before .before .pre) .1 .0)))  -- tidx-requires
     (λ c. search needs)  -- enum-known-x-11
-    (λ c κs. (omega (arith, (c .before .before .before .before .before .before .before .before .before .pre) .0), ((c .before .before .before .before .before .before .before .before .before .pre) .1 .0)))  -- array-requires
+    (λ c κs. (omega (arith, (c .before .before .before .before .before .before .before .before .before .pre) .0), ((c .before .before .before .before .before .before .before .before .before .pre) .1 .0)))  -- arr-requires
     (λ c. search needs)  -- enum-known-x-12
     (λ c κs. (omega (arith, (c .before .before .before .before .before .before .before .before .before .pre) .0), ((c .before .before .before .before .before .before .before .before .before .pre) .1 .0)))  -- rep-requires
     (λ c. search needs)  -- enum-known-x-13
@@ -79,13 +79,32 @@ node-holds t =
     (λ c κs. (omega (arith, (c .before .before .before .before .before .before .before .before .before .before .before .before .pre) .0), ((c .before .before .before .before .before .before .before .before .before .before .before .before .pre) .1 .0)))  -- expr-type-requires
     (λ c. search needs)  -- same-length
     (λ c. search needs)  -- same-length-2
-    (λ c. by-node _ _ _ _ ((c .before .before .before .before .before .before .before .x) .given .1) (same-runs (literal-shaped _ _ _ _) ((c .before .before .before .lit) .ensures)))  -- returns
+    (λ c.
+    let x = c .before .before .before .before .before .before .before .x in
+    let lit = c .before .before .before .lit in
+    by-node _ _ _ _ (x .given .1) (same-runs (literal-shaped _ _ _ _) (lit .ensures)))  -- returns
     (λ c. by-node _ _ _ _ ((c .enum-told) .given .1) (answers ((c .before .before .before .before .before .before .pre) .1 .0) refl))  -- returns-2
-    (λ c. by-node _ _ _ _ ((c .before .before .before .x2) .given .1) (same-runs (identifier-shaped _ _ _ _) (if-true _ _ _ ((c .before .is-builtin-function-name) .ensures) ((c .if1) .taken) (answers ((c .before .before .before .before .before .before .before .before .before .pre) .1 .0) refl))))  -- returns-3
-    (λ c. by-node _ _ _ _ ((c .before .before .before .before .before .before .x2) .given .1) (same-runs (identifier-shaped _ _ _ _) (if-false _ _ _ ((c .before .before .before .before .is-builtin-function-name) .ensures) ((c .before .before .before .if1) .left) (none-runs _ _ _ (sym ((c .before .before .identifier-definition) .ensures .same) ∙ ap definition-link-of ((c .enum-told2) .given .1)) (answers ((c .before .before .before .before .before .before .before .before .before .before .before .before .pre) .1 .0) refl)))))  -- returns-4
+    (λ c.
+    let pre = c .before .before .before .before .before .before .before .before .before .pre in
+    let x2 = c .before .before .before .x2 in
+    by-node _ _ _ _ (x2 .given .1) (same-runs (identifier-shaped _ _ _ _) (if-true _ _ _ ((c .before .is-builtin-function-name) .ensures) ((c .if1) .taken) (answers (pre .1 .0) refl))))  -- returns-3
+    (λ c.
+    let pre = c .before .before .before .before .before .before .before .before .before .before .before .before .pre in
+    let x2 = c .before .before .before .before .before .before .x2 in
+    let is-builtin-function-name = c .before .before .before .before .is-builtin-function-name in
+    let if1 = c .before .before .before .if1 in
+    let identifier-definition = c .before .before .identifier-definition in
+    by-node _ _ _ _ (x2 .given .1) (same-runs (identifier-shaped _ _ _ _) (if-false _ _ _ (is-builtin-function-name .ensures) (if1 .left) (none-runs _ _ _ (sym (identifier-definition .ensures .same) ∙ ap definition-link-of ((c .enum-told2) .given .1)) (answers (pre .1 .0) refl)))))  -- returns-4
     (λ c. search needs)  -- same-length-3
     (λ c. search needs)  -- same-length-4
-    (λ c. by-node _ _ _ _ ((c .before .before .before .before .before .before .before .before .before .before .before .before .before .x2) .given .1) (same-runs (identifier-shaped _ _ _ _) (if-false _ _ _ ((c .before .before .before .before .before .before .before .before .before .before .before .is-builtin-function-name) .ensures) ((c .before .before .before .before .before .before .before .before .before .before .if1) .left) (some-runs _ _ _ (sym ((c .before .before .before .before .before .before .before .before .before .identifier-definition) .ensures .same) ∙ ap definition-link-of ((c .before .before .before .before .before .before .before .d) .given .1)) ((c .before .before .before .def-type) .ensures)))))  -- returns-5
+    (λ c.
+    let x2 = c .before .before .before .before .before .before .before .before .before .before .before .before .before .x2 in
+    let is-builtin-function-name = c .before .before .before .before .before .before .before .before .before .before .before .is-builtin-function-name in
+    let if1 = c .before .before .before .before .before .before .before .before .before .before .if1 in
+    let identifier-definition = c .before .before .before .before .before .before .before .before .before .identifier-definition in
+    let d = c .before .before .before .before .before .before .before .d in
+    let def-type = c .before .before .before .def-type in
+    by-node _ _ _ _ (x2 .given .1) (same-runs (identifier-shaped _ _ _ _) (if-false _ _ _ (is-builtin-function-name .ensures) (if1 .left) (some-runs _ _ _ (sym (identifier-definition .ensures .same) ∙ ap definition-link-of (d .given .1)) (def-type .ensures)))))  -- returns-5
     (λ c. search needs)  -- same-length-5
     (λ c. search needs)  -- same-length-6
     (λ c. by-node _ _ _ _ ((c .before .before .before .before .before .before .before .x3) .given .1) ((c .before .before .before .un) .ensures))  -- returns-6
@@ -103,7 +122,11 @@ node-holds t =
     (λ c. by-node _ _ _ _ ((c .before .before .before .before .before .before .before .x7) .given .1) ((c .before .before .before .index) .ensures))  -- returns-10
     (λ c. search needs)  -- same-length-15
     (λ c. search needs)  -- same-length-16
-    (λ c. by-node _ _ _ _ ((c .before .before .before .before .before .before .before .before .x8) .given .1) (same-runs (literal-named _ _ _ _ _ _) (led-to _ ((c .before .before .before .before .before .before .resolve-name-at-position) .result) _ ((c .before .before .before .before .before .before .resolve-name-at-position) .ensures) ((c .before .before .before .named) .ensures))))  -- returns-11
+    (λ c.
+    let x8 = c .before .before .before .before .before .before .before .before .x8 in
+    let resolve-name-at-position = c .before .before .before .before .before .before .resolve-name-at-position in
+    let named = c .before .before .before .named in
+    by-node _ _ _ _ (x8 .given .1) (same-runs (literal-named _ _ _ _ _ _) (led-to _ (resolve-name-at-position .result) _ (resolve-name-at-position .ensures) (named .ensures))))  -- returns-11
     (λ c. search needs)  -- same-length-17
     (λ c. search needs)  -- same-length-18
     (λ c. by-node _ _ _ _ ((c .before .before .before .before .before .before .before .x9) .given .1) ((c .before .before .before .tuple) .ensures))  -- returns-12
@@ -112,7 +135,10 @@ node-holds t =
     (λ c. by-node _ _ _ _ ((c .before .before .before .before .before .before .before .x10) .given .1) ((c .before .before .before .tidx) .ensures))  -- returns-13
     (λ c. search needs)  -- same-length-21
     (λ c. search needs)  -- same-length-22
-    (λ c. by-node _ _ _ _ ((c .before .before .before .before .before .before .before .x11) .given .1) (same-runs (array-shaped _ _ _ _) ((c .before .before .before .array) .ensures)))  -- returns-14
+    (λ c.
+    let x11 = c .before .before .before .before .before .before .before .x11 in
+    let arr = c .before .before .before .arr in
+    by-node _ _ _ _ (x11 .given .1) (same-runs (array-shaped _ _ _ _) (arr .ensures)))  -- returns-14
     (λ c. search needs)  -- same-length-23
     (λ c. search needs)  -- same-length-24
     (λ c. by-node _ _ _ _ ((c .before .before .before .before .before .before .before .x12) .given .1) ((c .before .before .before .rep) .ensures))  -- returns-15
@@ -122,7 +148,14 @@ node-holds t =
     (λ c. search needs)  -- same-length-27
     (λ c. search needs)  -- same-length-28
     (λ c. by-node _ _ _ _ ((c .before .before .before .before .before .before .before .x14) .given .1) ((c .before .before .before .new) .ensures))  -- returns-17
-    (λ c. by-node _ _ _ _ ((c .before .before .before .x15) .given .1) (none-runs _ _ _ (ap expression-link-of ((c .enum-told3) .given .1)) (answers ((c .before .before .before .before .before .before .before .before .before .pre) .1 .0) refl)))  -- returns-18
+    (λ c.
+    let pre = c .before .before .before .before .before .before .before .before .before .pre in
+    let x15 = c .before .before .before .x15 in
+    by-node _ _ _ _ (x15 .given .1) (none-runs _ _ _ (ap expression-link-of ((c .enum-told3) .given .1)) (answers (pre .1 .0) refl)))  -- returns-18
     (λ c. search needs)  -- same-length-29
     (λ c. search needs)  -- same-length-30
-    (λ c. by-node _ _ _ _ ((c .before .before .before .before .before .before .before .before .before .before .x15) .given .1) (some-runs _ _ _ (ap expression-link-of ((c .before .before .before .before .before .before .before .inner) .given .1)) ((c .before .before .before .expr-type) .ensures)))  -- returns-19
+    (λ c.
+    let x15 = c .before .before .before .before .before .before .before .before .before .before .x15 in
+    let inner = c .before .before .before .before .before .before .before .inner in
+    let expr-type = c .before .before .before .expr-type in
+    by-node _ _ _ _ (x15 .given .1) (some-runs _ _ _ (ap expression-link-of (inner .given .1)) (expr-type .ensures)))  -- returns-19

@@ -30,13 +30,45 @@ struct-data-holds t =
     (λ c κs. search needs)  -- struct-fields-requires
     (λ c. search needs)  -- enum-told-2
     (λ c. search needs)  -- enum-known-list
-    (λ c κs. (enter-falls 2 (omega arith) ((c .before .before .before .before .before .before .before .before .before .before .before .before .before .before .before .enter-struct) .ensures) ((c .before .before .before .before .before .before .before .before .before .before .before .before .next) .given .1) (sym ((c .before .before .before .before .before .before .before .before .before .before .before .before .before .before .before .before .before .before .before .before .pre) .0)), ((entered-ready ((c .before .before .before .before .before .before .before .before .before .before .before .before .before .before .before .before .before .before .before .before .pre) .1) ((c .before .before .before .before .before .before .before .before .before .before .before .before .before .before .before .enter-struct) .ensures) ((c .before .before .before .before .before .before .before .before .before .before .before .before .next) .given .1)), short-fields ((c .before .before .before .before .before .before .before .before .before .before .before .before .before .before .before .before .before .before .before .before .pre) .1) ((c .before .before .before .before .before .before .before .before .before .before .definition-in) .ensures) ((c .before .before .before .before .before .before .before .before .x) .given .1) ((c .before .before .before .before .before .struct-fields) .ensures) ((c .before .before .before .list) .given .1))))  -- fields-requires
+    (λ c κs.
+    let pre = c .before .before .before .before .before .before .before .before .before .before .before .before .before .before .before .before .before .before .before .before .pre in
+    let enter-struct = c .before .before .before .before .before .before .before .before .before .before .before .before .before .before .before .enter-struct in
+    let next = c .before .before .before .before .before .before .before .before .before .before .before .before .next in
+    let definition-in = c .before .before .before .before .before .before .before .before .before .before .definition-in in
+    let x = c .before .before .before .before .before .before .before .before .x in
+    let struct-fields = c .before .before .before .before .before .struct-fields in
+    let list = c .before .before .before .list in
+    (enter-falls 2 (omega arith) (enter-struct .ensures) (next .given .1) (sym (pre .0)), ((entered-ready (pre .1) (enter-struct .ensures) (next .given .1)), short-fields (pre .1) (definition-in .ensures) (x .given .1) (struct-fields .ensures) (list .given .1))))  -- fields-requires
     (λ c. search needs)  -- same-length
-    (λ c. entered-stops ((c .before .before .before .before .before .before .before .before .before .pre) .1) ((c .before .before .before .before .enter-struct) .ensures) ((c .before .n) .given .1) (not-linked refl))  -- returns
+    (λ c.
+    let pre = c .before .before .before .before .before .before .before .before .before .pre in
+    let enter-struct = c .before .before .before .before .enter-struct in
+    entered-stops (pre .1) (enter-struct .ensures) ((c .before .n) .given .1) (not-linked refl))  -- returns
     (λ c. search needs)  -- same-length-2
-    (λ c. entered-runs ((c .before .before .before .before .before .before .before .before .before .before .before .before .pre) .1) ((c .before .before .before .before .before .before .before .enter-struct) .ensures) ((c .before .before .before .before .next) .given .1) (struct-absent (entered-ready ((c .before .before .before .before .before .before .before .before .before .before .before .before .pre) .1) ((c .before .before .before .before .before .before .before .enter-struct) .ensures) ((c .before .before .before .before .next) .given .1)) _ _ ((c .before .before .definition-in) .ensures) ((c .enum-told) .given .1)))  -- returns-2
+    (λ c.
+    let pre = c .before .before .before .before .before .before .before .before .before .before .before .before .pre in
+    let enter-struct = c .before .before .before .before .before .before .before .enter-struct in
+    let next = c .before .before .before .before .next in
+    let definition-in = c .before .before .definition-in in
+    entered-runs (pre .1) (enter-struct .ensures) (next .given .1) (struct-absent (entered-ready (pre .1) (enter-struct .ensures) (next .given .1)) _ _ (definition-in .ensures) ((c .enum-told) .given .1)))  -- returns-2
     (λ c. search needs)  -- same-length-3
-    (λ c. entered-runs ((c .before .before .before .before .before .before .before .before .before .before .before .before .before .before .before .before .before .pre) .1) ((c .before .before .before .before .before .before .before .before .before .before .before .before .enter-struct) .ensures) ((c .before .before .before .before .before .before .before .before .before .next) .given .1) (struct-found _ _ ((c .before .before .before .before .before .before .before .definition-in) .ensures) ((c .before .before .before .before .before .x) .given .1) (no-struct (entered-ready ((c .before .before .before .before .before .before .before .before .before .before .before .before .before .before .before .before .before .pre) .1) ((c .before .before .before .before .before .before .before .before .before .before .before .before .enter-struct) .ensures) ((c .before .before .before .before .before .before .before .before .before .next) .given .1)) _ _ _ _ ((c .before .before .struct-fields) .ensures) ((c .enum-told2) .given .1))))  -- returns-3
+    (λ c.
+    let pre = c .before .before .before .before .before .before .before .before .before .before .before .before .before .before .before .before .before .pre in
+    let enter-struct = c .before .before .before .before .before .before .before .before .before .before .before .before .enter-struct in
+    let next = c .before .before .before .before .before .before .before .before .before .next in
+    let definition-in = c .before .before .before .before .before .before .before .definition-in in
+    let x = c .before .before .before .before .before .x in
+    let struct-fields = c .before .before .struct-fields in
+    entered-runs (pre .1) (enter-struct .ensures) (next .given .1) (struct-found _ _ (definition-in .ensures) (x .given .1) (no-struct (entered-ready (pre .1) (enter-struct .ensures) (next .given .1)) _ _ _ _ (struct-fields .ensures) ((c .enum-told2) .given .1))))  -- returns-3
     (λ c. search needs)  -- same-length-4
     (λ c. search needs)  -- same-length-5
-    (λ c. entered-runs ((c .before .before .before .before .before .before .before .before .before .before .before .before .before .before .before .before .before .before .before .before .before .before .before .before .pre) .1) ((c .before .before .before .before .before .before .before .before .before .before .before .before .before .before .before .before .before .before .before .enter-struct) .ensures) ((c .before .before .before .before .before .before .before .before .before .before .before .before .before .before .before .before .next) .given .1) (struct-found _ _ ((c .before .before .before .before .before .before .before .before .before .before .before .before .before .before .definition-in) .ensures) ((c .before .before .before .before .before .before .before .before .before .before .before .before .x) .given .1) (struct-fielded _ _ _ _ _ ((c .before .before .before .before .before .before .before .before .before .struct-fields) .ensures) ((c .before .before .before .before .before .before .before .list) .given .1) ((c .before .before .before .fields) .ensures))))  -- returns-4
+    (λ c.
+    let pre = c .before .before .before .before .before .before .before .before .before .before .before .before .before .before .before .before .before .before .before .before .before .before .before .before .pre in
+    let enter-struct = c .before .before .before .before .before .before .before .before .before .before .before .before .before .before .before .before .before .before .before .enter-struct in
+    let next = c .before .before .before .before .before .before .before .before .before .before .before .before .before .before .before .before .next in
+    let definition-in = c .before .before .before .before .before .before .before .before .before .before .before .before .before .before .definition-in in
+    let x = c .before .before .before .before .before .before .before .before .before .before .before .before .x in
+    let struct-fields = c .before .before .before .before .before .before .before .before .before .struct-fields in
+    let list = c .before .before .before .before .before .before .before .list in
+    let fields = c .before .before .before .fields in
+    entered-runs (pre .1) (enter-struct .ensures) (next .given .1) (struct-found _ _ (definition-in .ensures) (x .given .1) (struct-fielded _ _ _ _ _ (struct-fields .ensures) (list .given .1) (fields .ensures))))  -- returns-4

@@ -32,13 +32,35 @@ tuple-holds t =
     (λ c. let good = (c .before .before .before .before .before .before .before .before .before .before .before .before .before .before .before .before .good) in omega arith)  -- cast-if1
     (λ c. let most = (c .before .before .before .before .before .before .before .before .before .elems) .ensures .1 .number _ ((c .before .before .before .n2) .given .1) in omega (arith, most, (c .before .before .before .before .before .elements2) .given, (c .before .before .before .before .before .before .before .before .before .before .before .before .before .before .before .before .before .before .pre) .1 .1))  -- array-share-prefix-elements
     (λ c. (let most = (c .before .before .before .before .before .before .before .before .before .before .elems) .ensures .1 .number _ ((c .before .before .before .before .n2) .given .1) in taken-length ((c .before .before .before .before .n2) .given .0 .0) ((c .before .before .before .before .before .before .before .before .before .before .elems) .last .1 .1 .1 .1 .1 .1 .1 .1 .0) (omega (arith, most, (c .before .before .before .before .before .before .elements2) .given, (c .before .before .before .before .before .before .before .before .before .before .before .before .before .before .before .before .before .before .before .pre) .1 .1))))  -- slice-aggregate-intern-tuple
-    (λ c κs. ((c .before .before .before .before .before .before .before .before .before .before .elems) .ensures .0 .ready .sound, elements-below ((c .before .before .before .before .before .before .before .before .before .before .before .before .before .before .before .before .before .before .before .pre) .1 .0) _ _ _ _ _ (contexts-good ((c .before .before .before .before .before .before .before .before .before .before .before .before .before .before .before .before .before .before .before .pre) .1 .0) ((c .before .before .before .before .before .before .before .before .before .before .before .before .before .before .element-contexts) .ensures)) ((c .before .before .before .before .before .before .before .before .before .before .elems) .ensures .0) ((c .before .before .before .before .n2) .given .1)))  -- intern-tuple-requires
+    (λ c κs.
+    let pre = c .before .before .before .before .before .before .before .before .before .before .before .before .before .before .before .before .before .before .before .pre in
+    let element-contexts = c .before .before .before .before .before .before .before .before .before .before .before .before .before .before .element-contexts in
+    let elems = c .before .before .before .before .before .before .before .before .before .before .elems in
+    let n2 = c .before .before .before .before .n2 in
+    (elems .ensures .0 .ready .sound, elements-below (pre .1 .0) _ _ _ _ _ (contexts-good (pre .1 .0) (element-contexts .ensures)) (elems .ensures .0) (n2 .given .1)))  -- intern-tuple-requires
     (λ c. search needs)  -- same-length
     (λ c. search needs)  -- same-length-2
-    (λ c. tuple-looked _ _ _ _ _ ((c .before .before .before .before .before .before .before .before .before .before .before .element-contexts) .ensures) (then-stop ((c .before .before .before .before .before .before .before .elems) .ensures .0) _ (not-collected _ ((c .before .n) .given .1)) (is-refused refl)))  -- returns
+    (λ c.
+    let element-contexts = c .before .before .before .before .before .before .before .before .before .before .before .element-contexts in
+    let elems = c .before .before .before .before .before .before .before .elems in
+    tuple-looked _ _ _ _ _ (element-contexts .ensures) (then-stop (elems .ensures .0) _ (not-collected _ ((c .before .n) .given .1)) (is-refused refl)))  -- returns
     (λ c. search needs)  -- same-length-3
     (λ c. search needs)  -- same-length-4
-    (λ c. tuple-looked _ _ _ _ _ ((c .before .before .before .before .before .before .before .before .before .before .before .before .before .before .before .before .before .element-contexts) .ensures) (then-on ((c .before .before .before .before .before .before .before .before .before .before .before .before .before .elems) .ensures .0) _ (is-collected _ ((c .before .before .before .before .before .before .before .n2) .given .1)) (if-true _ _ _ (sym (eq-eqb _ _ (sym (let most = (c .before .before .before .before .before .before .before .before .before .before .before .before .before .elems) .ensures .1 .number _ ((c .before .before .before .before .before .before .before .n2) .given .1) in taken-length ((c .before .before .before .before .before .before .before .n2) .given .0 .0) ((c .before .before .before .before .before .before .before .before .before .before .before .before .before .elems) .last .1 .1 .1 .1 .1 .1 .1 .1 .0) (omega (arith, most, (c .before .before .before .before .before .before .before .before .before .elements2) .given, (c .before .before .before .before .before .before .before .before .before .before .before .before .before .before .before .before .before .before .before .before .before .before .pre) .1 .1))) ∙ (c .before .before .before .before .before .if1) .taken ∙ sym (links-length _ _ _)))) refl (interns-runs ((c .before .before .before .before .before .before .before .before .before .before .before .before .before .elems) .ensures .0 .ready) ((c .before .before .intern-tuple) .ensures)))))  -- returns-2
+    (λ c.
+    let pre = c .before .before .before .before .before .before .before .before .before .before .before .before .before .before .before .before .before .before .before .before .before .before .pre in
+    let element-contexts = c .before .before .before .before .before .before .before .before .before .before .before .before .before .before .before .before .before .element-contexts in
+    let elems = c .before .before .before .before .before .before .before .before .before .before .before .before .before .elems in
+    let elements2 = c .before .before .before .before .before .before .before .before .before .elements2 in
+    let n2 = c .before .before .before .before .before .before .before .n2 in
+    let if1 = c .before .before .before .before .before .if1 in
+    let intern-tuple = c .before .before .intern-tuple in
+    tuple-looked _ _ _ _ _ (element-contexts .ensures) (then-on (elems .ensures .0) _ (is-collected _ (n2 .given .1)) (if-true _ _ _ (sym (eq-eqb _ _ (sym (let most = elems .ensures .1 .number _ (n2 .given .1) in taken-length (n2 .given .0 .0) (elems .last .1 .1 .1 .1 .1 .1 .1 .1 .0) (omega (arith, most, elements2 .given, pre .1 .1))) ∙ if1 .taken ∙ sym (links-length _ _ _)))) refl (interns-runs (elems .ensures .0 .ready) (intern-tuple .ensures)))))  -- returns-2
     (λ c. search needs)  -- same-length-5
     (λ c. search needs)  -- same-length-6
-    (λ c. tuple-looked _ _ _ _ _ ((c .before .before .before .before .before .before .before .before .before .before .before .before .element-contexts) .ensures) (then-on ((c .before .before .before .before .before .before .before .before .elems) .ensures .0) _ (is-collected _ ((c .before .before .n2) .given .1)) (if-false _ _ _ (sym (ne-eqb _ _ (λ e. (c .if1) .left ((let most = (c .before .before .before .before .before .before .before .before .elems) .ensures .1 .number _ ((c .before .before .n2) .given .1) in taken-length ((c .before .before .n2) .given .0 .0) ((c .before .before .before .before .before .before .before .before .elems) .last .1 .1 .1 .1 .1 .1 .1 .1 .0) (omega (arith, most, (c .before .before .before .before .elements2) .given, (c .before .before .before .before .before .before .before .before .before .before .before .before .before .before .before .before .before .pre) .1 .1))) ∙ e ∙ links-length _ _ _)))) refl (answers ((c .before .before .before .before .before .before .before .before .elems) .ensures .0 .ready) refl))))  -- returns-3
+    (λ c.
+    let pre = c .before .before .before .before .before .before .before .before .before .before .before .before .before .before .before .before .before .pre in
+    let element-contexts = c .before .before .before .before .before .before .before .before .before .before .before .before .element-contexts in
+    let elems = c .before .before .before .before .before .before .before .before .elems in
+    let elements2 = c .before .before .before .before .elements2 in
+    let n2 = c .before .before .n2 in
+    tuple-looked _ _ _ _ _ (element-contexts .ensures) (then-on (elems .ensures .0) _ (is-collected _ (n2 .given .1)) (if-false _ _ _ (sym (ne-eqb _ _ (λ e. (c .if1) .left ((let most = elems .ensures .1 .number _ (n2 .given .1) in taken-length (n2 .given .0 .0) (elems .last .1 .1 .1 .1 .1 .1 .1 .1 .0) (omega (arith, most, elements2 .given, pre .1 .1))) ∙ e ∙ links-length _ _ _)))) refl (answers (elems .ensures .0 .ready) refl))))  -- returns-3

@@ -9,7 +9,7 @@ use Rattle.type_resolution.specs.Shapes.{tuple-expr-type, ShortType}
 use Prim.Native.Nat.{ℕ}
 use native.Mathlib.Omega.{arith}
 use borrow.Author.Needs.{needs}
-use Rattle.type_resolution.proofs.arr.Reads as arr
+use Rattle.type_resolution.proofs.array.Reads as array
 use Rattle.type_table.proofs.intern_pointer.Reads as intern-pointer-reads
 use Rattle.semantic_index.proofs.latest_definition_index_by_name_in_chain.Reads as latest-definition-index-by-name-in-chain-reads
 use Rattle.type_resolution.proofs.named.Reads as named
@@ -17,13 +17,13 @@ use Rattle.type_resolution.proofs.ast_type.Reads as ast-type
 use Rattle.type_resolution.proofs.tup.Reads as tup
 use Rattle.type_resolution.proofs.ty.Reads as ty
 use Rattle.type_resolution.proofs.+all+args+arr+array+ast_type+bin+call+def+def_type+elems+empty+expr_type+fields+fn_signature+index+lit+member+named+new+node+only+origin+rep+same+sig+struct_data+tidx+tup+tuple+ty+un+var.Lts-ty as lts
-use Rattle.type_resolution.proofs.+all+args+arr+array+ast_type+bin+call+def+def_type+elems+empty+expr_type+fields+fn_signature+index+lit+member+named+new+node+only+origin+rep+same+sig+struct_data+tidx+tup+tuple+ty+un+var.Proof.Measures.{ty-at, arr-below, named-below, ast-type-below, tup-below}
+use Rattle.type_resolution.proofs.+all+args+arr+array+ast_type+bin+call+def+def_type+elems+empty+expr_type+fields+fn_signature+index+lit+member+named+new+node+only+origin+rep+same+sig+struct_data+tidx+tup+tuple+ty+un+var.Proof.Measures.{ty-at, array-below, named-below, ast-type-below, tup-below}
 
-pub ty-holds : {M : Type 1} (t : ℕ) → lts.Closed (latest-definition-index-by-name-in-chain-reads.Asked, latest-definition-index-by-name-in-chain-reads.Learnt, named-below t, named.Post, ast-type-below t, ast-type.Post, intern-pointer-reads.Asked, intern-pointer-reads.Learnt, tup-below t, tup.Post, arr-below t, arr.Post) (ty-at t) ty.Post M
+pub ty-holds : {M : Type 1} (t : ℕ) → lts.Closed (latest-definition-index-by-name-in-chain-reads.Asked, latest-definition-index-by-name-in-chain-reads.Learnt, named-below t, named.Post, ast-type-below t, ast-type.Post, intern-pointer-reads.Asked, intern-pointer-reads.Learnt, tup-below t, tup.Post, array-below t, array.Post) (ty-at t) ty.Post M
 unfolding type-expr-type tuple-expr-type
 ty-holds t =
     lts.spec
-    (latest-definition-index-by-name-in-chain-reads.Asked, latest-definition-index-by-name-in-chain-reads.Learnt, named-below t, named.Post, ast-type-below t, ast-type.Post, intern-pointer-reads.Asked, intern-pointer-reads.Learnt, tup-below t, tup.Post, arr-below t, arr.Post)
+    (latest-definition-index-by-name-in-chain-reads.Asked, latest-definition-index-by-name-in-chain-reads.Learnt, named-below t, named.Post, ast-type-below t, ast-type.Post, intern-pointer-reads.Asked, intern-pointer-reads.Learnt, tup-below t, tup.Post, array-below t, array.Post)
     (ty-at t)
     ty.Post
     (λ c. search needs)  -- enum-told
@@ -36,26 +36,42 @@ ty-holds t =
     (λ c κs. (omega (arith, (c .before .before .before .before .before .before .before .before .pre) .0), ((c .before .before .before .before .before .before .before .before .pre) .1 .0)))  -- ast-type-requires
     (λ c. search needs)  -- enum-known-n
     (λ c. search needs)  -- enum-known-element
-    (λ c κs. ((c .before .before .before .before .before .before .before .ast-type) .ensures .ready .sound, type-below ((c .before .before .before .before .before .before .before .before .before .before .before .before .before .before .before .before .pre) .1 .0) ((c .before .before .before .before .before .before .before .ast-type) .ensures) ((c .before .before .element) .given .1)))  -- intern-pointer-requires
+    (λ c κs.
+    let pre = c .before .before .before .before .before .before .before .before .before .before .before .before .before .before .before .before .pre in
+    let ast-type = c .before .before .before .before .before .before .before .ast-type in
+    let element = c .before .before .element in
+    (ast-type .ensures .ready .sound, type-below (pre .1 .0) (ast-type .ensures) (element .given .1)))  -- intern-pointer-requires
     (λ c. search needs)  -- enum-known-x-3
     (λ c κs. (omega (arith, (c .before .before .before .before .before .before .before .before .pre) .0), ((c .before .before .before .before .before .before .before .before .pre) .1 .0, subst ShortType ((c .before .before .before .x3) .given .1) ((c .before .before .before .before .before .before .before .before .pre) .1 .1))))  -- tup-requires
     (λ c. search needs)  -- enum-known-x-4
-    (λ c κs. (omega (arith, (c .before .before .before .before .before .before .before .before .pre) .0), ((c .before .before .before .before .before .before .before .before .pre) .1 .0)))  -- arr-requires
+    (λ c κs. (omega (arith, (c .before .before .before .before .before .before .before .before .pre) .0), ((c .before .before .before .before .before .before .before .before .pre) .1 .0)))  -- array-requires
     (λ c. by-type-expr _ _ _ ((c .enum-told) .given .1) (answers ((c .before .before .before .before .before .pre) .1 .0) refl))  -- returns
     (λ c. by-type-expr _ _ _ ((c .enum-told2) .given .1) (answers ((c .before .before .before .before .before .pre) .1 .0) refl))  -- returns-2
     (λ c. by-type-expr _ _ _ ((c .enum-told3) .given .1) (answers ((c .before .before .before .before .before .pre) .1 .0) refl))  -- returns-3
     (λ c. search needs)  -- same-length
     (λ c. search needs)  -- same-length-2
-    (λ c. by-type-expr _ _ _ ((c .before .before .before .before .before .before .before .before .x) .given .1) (same-runs (custom-named _ _ _ _) (led-to _ ((c .before .before .before .before .before .before .latest-definition-index-by-name-in-chain) .result) _ ((c .before .before .before .before .before .before .latest-definition-index-by-name-in-chain) .ensures) ((c .before .before .before .named) .ensures))))  -- returns-4
+    (λ c.
+    let x = c .before .before .before .before .before .before .before .before .x in
+    let latest-definition-index-by-name-in-chain = c .before .before .before .before .before .before .latest-definition-index-by-name-in-chain in
+    let named = c .before .before .before .named in
+    by-type-expr _ _ _ (x .given .1) (same-runs (custom-named _ _ _ _) (led-to _ (latest-definition-index-by-name-in-chain .result) _ (latest-definition-index-by-name-in-chain .ensures) (named .ensures))))  -- returns-4
     (λ c. search needs)  -- same-length-3
     (λ c. search needs)  -- same-length-4
-    (λ c. by-type-expr _ _ _ ((c .before .before .before .before .before .before .before .before .before .before .x2) .given .1) (then-stop ((c .before .before .before .before .before .before .ast-type) .ensures) _ (is-refused ((c .before .n) .given .1)) (is-refused refl)))  -- returns-5
+    (λ c.
+    let x2 = c .before .before .before .before .before .before .before .before .before .before .x2 in
+    let ast-type = c .before .before .before .before .before .before .ast-type in
+    by-type-expr _ _ _ (x2 .given .1) (then-stop (ast-type .ensures) _ (is-refused ((c .before .n) .given .1)) (is-refused refl)))  -- returns-5
     (λ c. search needs)  -- same-length-5
     (λ c. search needs)  -- same-length-6
-    (λ c. by-type-expr _ _ _ ((c .before .before .before .before .before .before .before .before .before .before .before .before .before .before .x2) .given .1) (then-on ((c .before .before .before .before .before .before .before .before .before .before .ast-type) .ensures) _ (is-typed ((c .before .before .before .before .before .element) .given .1)) (interns-runs ((c .before .before .before .before .before .before .before .before .before .before .ast-type) .ensures .ready) ((c .before .before .intern-pointer) .ensures))))  -- returns-6
+    (λ c.
+    let x2 = c .before .before .before .before .before .before .before .before .before .before .before .before .before .before .x2 in
+    let ast-type = c .before .before .before .before .before .before .before .before .before .before .ast-type in
+    let element = c .before .before .before .before .before .element in
+    let intern-pointer = c .before .before .intern-pointer in
+    by-type-expr _ _ _ (x2 .given .1) (then-on (ast-type .ensures) _ (is-typed (element .given .1)) (interns-runs (ast-type .ensures .ready) (intern-pointer .ensures))))  -- returns-6
     (λ c. search needs)  -- same-length-7
     (λ c. search needs)  -- same-length-8
     (λ c. by-type-expr _ _ _ ((c .before .before .before .before .before .before .before .x3) .given .1) ((c .before .before .before .tup) .ensures))  -- returns-7
     (λ c. search needs)  -- same-length-9
     (λ c. search needs)  -- same-length-10
-    (λ c. by-type-expr _ _ _ ((c .before .before .before .before .before .before .before .x4) .given .1) ((c .before .before .before .arr) .ensures))  -- returns-8
+    (λ c. by-type-expr _ _ _ ((c .before .before .before .before .before .before .before .x4) .given .1) ((c .before .before .before .array) .ensures))  -- returns-8
