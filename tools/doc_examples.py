@@ -42,7 +42,7 @@ def said_by(command, index):
 
 
 def ended(number, differing):
-    print("%d examples" % number)
+    print("documents: %d examples, %d differ" % (number, len(differing)))
     if differing:
         sys.exit("\n".join(differing))
 
