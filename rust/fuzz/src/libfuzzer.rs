@@ -4,14 +4,18 @@
 use std::cell::RefCell;
 use std::ffi::{c_int, c_uint};
 use std::slice;
+use std::sync::Mutex;
 
 use typetool::generate::{Random, damage};
 
-use crate::{Target, gentle};
+use crate::{Counts, Target, gentle};
 
 thread_local! {
     static TARGET: RefCell<Target> = RefCell::default();
 }
+
+/// The counts after the last input: a thread's own values are gone when the process ends.
+static COUNTS: Mutex<Option<Counts>> = Mutex::new(None);
 
 unsafe extern "C" {
     fn LLVMFuzzerMutate(data: *mut u8, size: usize, max_size: usize) -> usize;
@@ -19,8 +23,7 @@ unsafe extern "C" {
 }
 
 extern "C" fn say_counts() {
-    let counts = TARGET.try_with(|target| target.try_borrow().map(|target| target.counts));
-    if let Ok(Ok(counts)) = counts {
+    if let Ok(Some(counts)) = COUNTS.lock().as_deref() {
         eprintln!("{counts}");
     }
 }
@@ -41,7 +44,13 @@ pub unsafe extern "C" fn LLVMFuzzerTestOneInput(data: *const u8, size: usize) ->
         // SAFETY: as libFuzzer promises.
         _ => unsafe { slice::from_raw_parts(data, size) },
     };
-    TARGET.with_borrow_mut(|target| target.one_input(file));
+    let counts = TARGET.with_borrow_mut(|target| {
+        target.one_input(file);
+        target.counts
+    });
+    if let Ok(mut last) = COUNTS.lock() {
+        *last = Some(counts);
+    }
     0
 }
 
