@@ -20,6 +20,9 @@ ghost use Rattle.compatibility.specs.Operators.{unary-row-at, binary-row
 
 // ------------------------------------------------------------------ compatibility
 
+// The public functions ask that the words hold a table as interning leaves it: comparing goes down by type numbers, an element's below its holder's, and
+// with other words it might not end. To test that would be to read the whole table at each call; `type_resolution` has it from the first type on.
+
 fn is_error_or_unknown(kind: u32) -> bool
     ensures { λ r. ⌜ r ≡ (eqb kind 4 || eqb kind 3) ⌝ }
 {

@@ -170,6 +170,9 @@ fn is_open(demands: &[Place], depth: usize, d: OpenDemand) -> bool
 
 // ------------------------------------------------------------------ entering
 
+// The functions that enter ask for the 256 places and a depth within them: they are called at each demand, and `answers`, the only lender, has tested the
+// length once.
+
 // Opens a demand at `depth`: refused with 7 where it is open already, and then with 8 where no place is free.
 fn enter(demands: &mut [Place], depth: usize, d: OpenDemand) -> Entered
     requires { ⌜ (depth ≤ 256) × (256 ≤ length (now demands)) ⌝ }

@@ -1,4 +1,5 @@
-// Loading an index file: any bytes become the record words of crates/records, or a refusal with its line.
+// Loading an index file: any bytes become the record words of crates/records, or a refusal with its line. The modules are
+// private to the crate: what their functions ask for `load` has tested, or the function before them gives it.
 mod items;
 mod lines;
 mod pass;

@@ -1566,7 +1566,8 @@ fn rep(
 
 // ------------------------------------------------------------------ questions
 
-// The type of a question. An absent module, expression or definition gives error; a context is resolved first, in e's scope.
+// The type of a question. An absent module, expression or definition gives error; a context is resolved first, in e's scope. It asks for a started table,
+// the 256 places and records within their limit (`Ready`): `answers`, its only caller, has just loaded the file.
 pub fn resolve_question(
     file: &[u8],
     words: &[u32],

@@ -542,6 +542,9 @@ pub fn suffix_type(file: &[u8], suffix: Suffix) -> FoundType
 
 // ------------------------------------------------------------------ interning
 
+// The functions that intern ask that the words hold a table and that the types named are of it, so that an element's number is below its holder's. To test
+// it would be to read the whole table at each type; a table has it from `start` on, and each of these keeps it.
+
 fn same_head(a: Head, b: Head) -> bool
     ensures { λ r. ⌜ r ≡ same-heads a b ⌝ }
 {

@@ -24,6 +24,9 @@ pub enum TypeText {
 
 // ------------------------------------------------------------------ bytes and numbers
 
+// `put` and `put_decimal` ask for room, which their callers have measured, and `write_text` for a table as interning leaves it: measuring and writing go down
+// by type numbers, an element's below its holder's.
+
 // Writes all of a text at a place, and returns the place behind it.
 pub fn put(out: &mut [u8], at: usize, text: &[u8]) -> usize
     requires { ⌜ at + length (now text) ≤ length (now out) ⌝ }

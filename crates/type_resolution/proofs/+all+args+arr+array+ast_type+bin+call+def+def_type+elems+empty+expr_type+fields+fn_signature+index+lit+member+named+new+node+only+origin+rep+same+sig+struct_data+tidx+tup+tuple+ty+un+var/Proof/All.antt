@@ -39,19 +39,19 @@ all-holds t =
     (λ c. omega (arith, (c .before .before .before .before .before .types) .given, (c .before .before .before .before .before .before .before .before .before .before .before .loop) .inv .1 .1 .0))  -- same-length
     (λ c. omega (arith, (c .before .before .before .demands) .given, (c .before .before .before .before .before .before .before .before .before .before .before .loop) .inv .1 .1 .1 .0))  -- same-length-2
     (λ c. (c .before .before .before .before .before .before .before .before .before .before .before .loop) .inv .1 .0)  -- same-length-3
-    (λ c.
+    (λ c.  -- returns
     let loop = c .before .before .before .before .before .before .before .before .before .before .before .loop in
     let loop-test = c .before .before .before .before .before .before .before .before .before .before .loop-test in
     let item-value = c .before .before .before .before .before .before .before .before .before .item-value in
     let ast-type = c .before .before .before .before .before .before .ast-type in
-    (all-stops _ _ _ _ _ _ (loop .inv .1 .1 .1 .1) (loop-test .taken) (item-value .ensures) (ast-type .ensures) _ ((c .before .n) .given .1), exactly-none _ _))  -- returns
+    (all-stops _ _ _ _ _ _ (loop .inv .1 .1 .1 .1) (loop-test .taken) (item-value .ensures) (ast-type .ensures) _ ((c .before .n) .given .1), exactly-none _ _))
     (λ c. search needs)  -- enum-known-x
     (λ c. let good = (c .before .before .before .before .before .before .before .before .before .before .before .before .before .before .before .before .good) in omega (arith, (c .before .before .before .before .before .before .before .before .before .before .loop-test) .taken))  -- cast-out
     (λ c. let good = (c .before .before .before .before .before .before .before .before .before .before .before .before .before .before .before .before .good) in omega (arith, (c .before .before .before .before .before .before .before .before .before .before .loop-test) .taken))  -- mul-out
     (λ c. omega (arith, (c .before .before .before .before .before .before .before .before .before .before .loop-test) .taken, (c .before .before .before .before .before .before .before .before .before .before .before .loop) .inv .1 .0, (c .before .before .before .before .before .before .before .before .before .before .before .before .before .before .before .before .pre) .1 .1))  -- slice-write-out
     (λ c. let good = (c .before .before .before .before .before .before .before .before .before .before .before .before .before .before .before .before .good) in omega (arith, (c .before .before .before .before .before .before .before .before .before .before .loop-test) .taken))  -- add-i
     (λ c. omega (arith, (c .before .before .before .before .before .before .before .before .before .before .loop-test) .taken))  -- loop-less
-    (λ c.
+    (λ c.  -- loop-again
     let pre = c .before .before .before .before .before .before .before .before .before .before .before .before .before .before .before .before .pre in
     let loop = c .before .before .before .before .before .before .before .before .before .before .before .loop in
     let loop-test = c .before .before .before .before .before .before .before .before .before .before .loop-test in
@@ -59,7 +59,7 @@ all-holds t =
     let ast-type = c .before .before .before .before .before .before .ast-type in
     let types = c .before .before .before .before .before .types in
     let demands = c .before .before .before .demands in
-    (omega (arith, loop-test .taken), (length-set (loop .out) (loop .i) ((c .before .x) .given .0 .0) ∙ loop .inv .1 .0, (omega (arith, types .given, loop .inv .1 .1 .0), (omega (arith, demands .given, loop .inv .1 .1 .1 .0), all-more _ _ _ _ _ _ (loop .inv .1 .1 .1 .1) (loop-test .taken) (item-value .ensures) (ast-type .ensures) ((c .before .x) .given .1) (omega (arith, loop-test .taken, loop .inv .1 .0, pre .1 .1)))))))  -- loop-again
+    (omega (arith, loop-test .taken), (length-set (loop .out) (loop .i) ((c .before .x) .given .0 .0) ∙ loop .inv .1 .0, (omega (arith, types .given, loop .inv .1 .1 .0), (omega (arith, demands .given, loop .inv .1 .1 .1 .0), all-more _ _ _ _ _ _ (loop .inv .1 .1 .1 .1) (loop-test .taken) (item-value .ensures) (ast-type .ensures) ((c .before .x) .given .1) (omega (arith, loop-test .taken, loop .inv .1 .0, pre .1 .1)))))))
     (λ c. let good = (c .before .before .before .before .before .before .good) in omega (arith, (c .loop-test) .left))  -- cast-t25
     (λ c. (c .before .loop) .inv .1 .1 .0)  -- same-length-4
     (λ c. (c .before .loop) .inv .1 .1 .1 .0)  -- same-length-5

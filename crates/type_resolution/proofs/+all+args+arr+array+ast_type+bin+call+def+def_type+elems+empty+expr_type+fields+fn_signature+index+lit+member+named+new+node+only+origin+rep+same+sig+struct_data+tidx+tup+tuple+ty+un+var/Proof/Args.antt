@@ -41,7 +41,7 @@ args-holds t =
     (λ c. search needs)  -- enum-known-n
     (λ c. omega (arith, (c .before .before .before .before .before .types) .given, (c .before .before .before .before .before .before .before .before .before .before .before .before .before .loop) .inv .1 .0))  -- same-length
     (λ c. omega (arith, (c .before .before .before .demands) .given, (c .before .before .before .before .before .before .before .before .before .before .before .before .before .loop) .inv .1 .1 .0))  -- same-length-2
-    (λ c.
+    (λ c.  -- returns
     let args = c .before .before .before .before .before .before .before .before .before .before .before .before .before .before .before .before .before .args in
     let pre = c .before .before .before .before .before .before .before .before .before .before .before .before .before .before .before .before .before .pre in
     let loop = c .before .before .before .before .before .before .before .before .before .before .before .before .before .loop in
@@ -49,11 +49,11 @@ args-holds t =
     let item-link = c .before .before .before .before .before .before .before .before .before .before .before .item-link in
     let item = c .before .before .before .before .before .before .before .before .before .item in
     let only = c .before .before .before .before .before .before .only in
-    arguments-stop _ _ _ _ _ (loop .inv .1 .1 .1) _ _ (loop-test .taken) (item-link .ensures) (item .ensures ∙ ap (λ l. getElem? l (loop .i)) (types-kept ((loop .inv .1 .1 .1) .grows) (args .params) (pre .1 .1))) (only .ensures) ((c .before .n) .given .1))  -- returns
+    arguments-stop _ _ _ _ _ (loop .inv .1 .1 .1) _ _ (loop-test .taken) (item-link .ensures) (item .ensures ∙ ap (λ l. getElem? l (loop .i)) (types-kept ((loop .inv .1 .1 .1) .grows) (args .params) (pre .1 .1))) (only .ensures) ((c .before .n) .given .1))
     (λ c. search needs)  -- enum-told
     (λ c. let good = (c .before .before .before .before .before .before .before .before .before .before .before .before .before .before .before .before .good) in omega (arith, (c .before .before .before .before .before .before .before .before .before .before .before .loop-test) .taken))  -- add-i
     (λ c. omega (arith, (c .before .before .before .before .before .before .before .before .before .before .before .loop-test) .taken))  -- loop-less
-    (λ c.
+    (λ c.  -- loop-again
     let args = c .before .before .before .before .before .before .before .before .before .before .before .before .before .before .before .before .args in
     let pre = c .before .before .before .before .before .before .before .before .before .before .before .before .before .before .before .before .pre in
     let loop = c .before .before .before .before .before .before .before .before .before .before .before .before .loop in
@@ -63,7 +63,7 @@ args-holds t =
     let only = c .before .before .before .before .before .only in
     let types = c .before .before .before .before .types in
     let demands = c .before .before .demands in
-    (omega (arith, loop-test .taken), (omega (arith, types .given, loop .inv .1 .0), (omega (arith, demands .given, loop .inv .1 .1 .0), arguments-more _ _ _ _ _ (loop .inv .1 .1 .1) _ _ (loop-test .taken) (item-link .ensures) (item .ensures ∙ ap (λ l. getElem? l (loop .i)) (types-kept ((loop .inv .1 .1 .1) .grows) (args .params) (pre .1 .1))) (only .ensures) ((c .enum-told) .given .1)))))  -- loop-again
+    (omega (arith, loop-test .taken), (omega (arith, types .given, loop .inv .1 .0), (omega (arith, demands .given, loop .inv .1 .1 .0), arguments-more _ _ _ _ _ (loop .inv .1 .1 .1) _ _ (loop-test .taken) (item-link .ensures) (item .ensures ∙ ap (λ l. getElem? l (loop .i)) (types-kept ((loop .inv .1 .1 .1) .grows) (args .params) (pre .1 .1))) (only .ensures) ((c .enum-told) .given .1)))))
     (λ c. (c .before .loop) .inv .1 .0)  -- same-length-3
     (λ c. (c .before .loop) .inv .1 .1 .0)  -- same-length-4
     (λ c. arguments-done _ _ _ _ _ ((c .before .loop) .inv .1 .1 .1) _ ((c .loop-test) .left))  -- returns-2

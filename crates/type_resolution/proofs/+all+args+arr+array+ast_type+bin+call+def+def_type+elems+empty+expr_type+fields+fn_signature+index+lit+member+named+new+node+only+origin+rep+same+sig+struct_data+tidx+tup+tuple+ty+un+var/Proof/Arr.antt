@@ -28,11 +28,11 @@ arr-holds t =
     (λ c κs. (omega (arith, (c .before .before .before .before .before .before .before .before .pre) .0), ((c .before .before .before .before .before .before .before .before .pre) .1, hint-found ((c .before .before .before .before .before .before .before .before .pre) .1) _ ((c .before .before .before .element-hint) .result) ((c .before .before .before .element-hint) .ensures _))))  -- empty-requires
     (λ c. search needs)  -- same-length
     (λ c. search needs)  -- same-length-2
-    (λ c.
+    (λ c.  -- returns
     let element-hint = c .before .before .before .before .before .before .before .element-hint in
     let if1 = c .before .before .before .before .before .before .if1 in
     let empty = c .before .before .before .empty in
-    no-elements _ _ _ _ (element-hint .result) (element-hint .ensures _) _ _ (if1 .taken) (empty .ensures))  -- returns
+    no-elements _ _ _ _ (element-hint .result) (element-hint .ensures _) _ _ (if1 .taken) (empty .ensures))
     (λ c κs. search needs)  -- item-link-requires
     (λ c. search needs)  -- enum-known-e
     (λ c. search needs)  -- enum-told
@@ -46,25 +46,25 @@ arr-holds t =
     (λ c. search needs)  -- enum-told-2
     (λ c. search needs)  -- enum-told-3
     (λ c. let good = (c .before .before .before .before .before .before .before .before .before .before .before .before .before .before .before .before .before .before .before .before .before .before .before .before .before .before .before .before .good) in omega arith)  -- cast-intern-array
-    (λ c κs.
+    (λ c κs.  -- intern-array-requires
     let pre = c .before .before .before .before .before .before .before .before .before .before .before .before .before .before .before .before .before .before .before .before .before .before .before .before .before .before .before .before .pre in
     let element-hint = c .before .before .before .before .before .before .before .before .before .before .before .before .before .before .before .before .before .before .before .before .before .before .before .element-hint in
     let expr-type = c .before .before .before .before .before .before .before .before .before .before .before .before .before .before .before .expr-type in
     let t = c .before .before .before .before .before .before .before .before .before .before .t in
     let same = c .before .before .before .before .before .before .same in
-    (same .ensures .ready .sound, later-below (same .ensures .grows) (expression-below (pre .1) (hinted (pre .1) _ _ (element-hint .ensures _)) (expr-type .ensures) (t .given .1))))  -- intern-array-requires
+    (same .ensures .ready .sound, later-below (same .ensures .grows) (expression-below (pre .1) (hinted (pre .1) _ _ (element-hint .ensures _)) (expr-type .ensures) (t .given .1))))
     (λ c. search needs)  -- same-length-4
     (λ c. search needs)  -- same-length-5
-    (λ c.
+    (λ c.  -- returns-3
     let element-hint = c .before .before .before .before .before .before .before .before .before .before .before .before .before .before .element-hint in
     let if1 = c .before .before .before .before .before .before .before .before .before .before .before .before .before .if1 in
     let item-link = c .before .before .before .before .before .before .before .before .before .before .before .before .item-link in
     let e = c .before .before .before .before .before .before .before .before .before .before .e in
     let expr-type = c .before .before .before .before .before .before .expr-type in
-    some-elements _ _ _ _ (element-hint .result) (element-hint .ensures _) _ _ (omega (arith, if1 .left)) (some-runs _ _ _ (sym (item-link .ensures) ∙ ap expression-link-of (e .given .1)) (then-stop (expr-type .ensures) _ (is-refused ((c .before .n) .given .1)) (is-refused refl))))  -- returns-3
+    some-elements _ _ _ _ (element-hint .result) (element-hint .ensures _) _ _ (omega (arith, if1 .left)) (some-runs _ _ _ (sym (item-link .ensures) ∙ ap expression-link-of (e .given .1)) (then-stop (expr-type .ensures) _ (is-refused ((c .before .n) .given .1)) (is-refused refl))))
     (λ c. search needs)  -- same-length-6
     (λ c. search needs)  -- same-length-7
-    (λ c.
+    (λ c.  -- returns-4
     let element-hint = c .before .before .before .before .before .before .before .before .before .before .before .before .before .before .before .before .before .before .before .before .before .before .before .element-hint in
     let if1 = c .before .before .before .before .before .before .before .before .before .before .before .before .before .before .before .before .before .before .before .before .before .before .if1 in
     let item-link = c .before .before .before .before .before .before .before .before .before .before .before .before .before .before .before .before .before .before .before .before .before .item-link in
@@ -72,10 +72,10 @@ arr-holds t =
     let expr-type = c .before .before .before .before .before .before .before .before .before .before .before .before .before .before .before .expr-type in
     let t = c .before .before .before .before .before .before .before .before .before .before .t in
     let same = c .before .before .before .before .before .before .same in
-    some-elements _ _ _ _ (element-hint .result) (element-hint .ensures _) _ _ (omega (arith, if1 .left)) (some-runs _ _ _ (sym (item-link .ensures) ∙ ap expression-link-of (e .given .1)) (then-on (expr-type .ensures) _ (is-typed (t .given .1)) (then-stop (same .ensures) _ (not-compared ((c .before .n2) .given .1)) (is-refused refl)))))  -- returns-4
+    some-elements _ _ _ _ (element-hint .result) (element-hint .ensures _) _ _ (omega (arith, if1 .left)) (some-runs _ _ _ (sym (item-link .ensures) ∙ ap expression-link-of (e .given .1)) (then-on (expr-type .ensures) _ (is-typed (t .given .1)) (then-stop (same .ensures) _ (not-compared ((c .before .n2) .given .1)) (is-refused refl)))))
     (λ c. search needs)  -- same-length-8
     (λ c. search needs)  -- same-length-9
-    (λ c.
+    (λ c.  -- returns-5
     let element-hint = c .before .before .before .before .before .before .before .before .before .before .before .before .before .before .before .before .before .before .before .before .before .before .element-hint in
     let if1 = c .before .before .before .before .before .before .before .before .before .before .before .before .before .before .before .before .before .before .before .before .before .if1 in
     let item-link = c .before .before .before .before .before .before .before .before .before .before .before .before .before .before .before .before .before .before .before .before .item-link in
@@ -83,10 +83,10 @@ arr-holds t =
     let expr-type = c .before .before .before .before .before .before .before .before .before .before .before .before .before .before .expr-type in
     let t = c .before .before .before .before .before .before .before .before .before .t in
     let same = c .before .before .before .before .before .same in
-    some-elements _ _ _ _ (element-hint .result) (element-hint .ensures _) _ _ (omega (arith, if1 .left)) (some-runs _ _ _ (sym (item-link .ensures) ∙ ap expression-link-of (e .given .1)) (then-on (expr-type .ensures) _ (is-typed (t .given .1)) (then-on (same .ensures) _ (is-different ((c .enum-told2) .given .1)) (if-false _ _ _ refl refl (answers (same .ensures .ready) refl))))))  -- returns-5
+    some-elements _ _ _ _ (element-hint .result) (element-hint .ensures _) _ _ (omega (arith, if1 .left)) (some-runs _ _ _ (sym (item-link .ensures) ∙ ap expression-link-of (e .given .1)) (then-on (expr-type .ensures) _ (is-typed (t .given .1)) (then-on (same .ensures) _ (is-different ((c .enum-told2) .given .1)) (if-false _ _ _ refl refl (answers (same .ensures .ready) refl))))))
     (λ c. search needs)  -- same-length-10
     (λ c. search needs)  -- same-length-11
-    (λ c.
+    (λ c.  -- returns-6
     let element-hint = c .before .before .before .before .before .before .before .before .before .before .before .before .before .before .before .before .before .before .before .before .before .before .before .before .before .before .element-hint in
     let if1 = c .before .before .before .before .before .before .before .before .before .before .before .before .before .before .before .before .before .before .before .before .before .before .before .before .before .if1 in
     let item-link = c .before .before .before .before .before .before .before .before .before .before .before .before .before .before .before .before .before .before .before .before .before .before .before .before .item-link in
@@ -96,4 +96,4 @@ arr-holds t =
     let same = c .before .before .before .before .before .before .before .before .before .same in
     let enum-told3 = c .before .before .before .before .enum-told3 in
     let intern-array = c .before .before .intern-array in
-    some-elements _ _ _ _ (element-hint .result) (element-hint .ensures _) _ _ (omega (arith, if1 .left)) (some-runs _ _ _ (sym (item-link .ensures) ∙ ap expression-link-of (e .given .1)) (then-on (expr-type .ensures) _ (is-typed (t .given .1)) (then-on (same .ensures) _ (is-same (enum-told3 .given .1)) (if-true _ _ _ refl refl (interns-runs (same .ensures .ready) (intern-array .ensures)))))))  -- returns-6
+    some-elements _ _ _ _ (element-hint .result) (element-hint .ensures _) _ _ (omega (arith, if1 .left)) (some-runs _ _ _ (sym (item-link .ensures) ∙ ap expression-link-of (e .given .1)) (then-on (expr-type .ensures) _ (is-typed (t .given .1)) (then-on (same .ensures) _ (is-same (enum-told3 .given .1)) (if-true _ _ _ refl refl (interns-runs (same .ensures .ready) (intern-array .ensures)))))))

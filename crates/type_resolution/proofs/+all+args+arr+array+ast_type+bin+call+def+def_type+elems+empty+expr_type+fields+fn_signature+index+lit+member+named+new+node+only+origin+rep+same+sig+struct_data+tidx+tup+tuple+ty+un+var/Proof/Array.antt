@@ -30,30 +30,30 @@ array-holds t =
     (λ c κs. search needs)  -- array-of-requires
     (λ c. search needs)  -- enum-told
     (λ c. search needs)  -- enum-told-2
-    (λ c κs.
+    (λ c κs.  -- intern-array-requires
     let pre = c .before .before .before .before .before .before .before .before .before .before .before .before .before .before .before .before .before .before .before .pre in
     let ast-type = c .before .before .before .before .before .before .before .before .before .before .before .ast-type in
     let element = c .before .before .before .before .before .before .element in
-    (ast-type .ensures .ready .sound, type-below (pre .1) (ast-type .ensures) (element .given .1)))  -- intern-array-requires
+    (ast-type .ensures .ready .sound, type-below (pre .1) (ast-type .ensures) (element .given .1)))
     (λ c. search needs)  -- same-length
     (λ c. search needs)  -- same-length-2
-    (λ c.
+    (λ c.  -- returns-2
     let names-array-expr = c .before .before .before .before .before .before .before .before .before .before .names-array-expr in
     let if1 = c .before .before .before .before .before .before .before .before .before .if1 in
     let ast-type = c .before .before .before .before .before .before .ast-type in
-    if-false _ _ _ (names-array-expr .ensures .same _) (if1 .left) (then-stop (ast-type .ensures) _ (is-refused ((c .before .n) .given .1)) (is-refused refl)))  -- returns-2
+    if-false _ _ _ (names-array-expr .ensures .same _) (if1 .left) (then-stop (ast-type .ensures) _ (is-refused ((c .before .n) .given .1)) (is-refused refl)))
     (λ c. search needs)  -- same-length-3
     (λ c. search needs)  -- same-length-4
-    (λ c.
+    (λ c.  -- returns-3
     let names-array-expr = c .before .before .before .before .before .before .before .before .before .before .before .before .before .before .names-array-expr in
     let if1 = c .before .before .before .before .before .before .before .before .before .before .before .before .before .if1 in
     let ast-type = c .before .before .before .before .before .before .before .before .before .before .ast-type in
     let element = c .before .before .before .before .before .element in
     let array-of = c .before .before .array-of in
-    if-false _ _ _ (names-array-expr .ensures .same _) (if1 .left) (then-on (ast-type .ensures) _ (is-typed (element .given .1)) (data-runs _ _ (some-runs _ _ _ (is-array _ (array-of .ensures _) ((c .enum-told) .given .1)) (answers (ast-type .ensures .ready) refl)))))  -- returns-3
+    if-false _ _ _ (names-array-expr .ensures .same _) (if1 .left) (then-on (ast-type .ensures) _ (is-typed (element .given .1)) (data-runs _ _ (some-runs _ _ _ (is-array _ (array-of .ensures _) ((c .enum-told) .given .1)) (answers (ast-type .ensures .ready) refl)))))
     (λ c. search needs)  -- same-length-5
     (λ c. search needs)  -- same-length-6
-    (λ c.
+    (λ c.  -- returns-4
     let names-array-expr = c .before .before .before .before .before .before .before .before .before .before .before .before .before .before .before .before .before .before .names-array-expr in
     let if1 = c .before .before .before .before .before .before .before .before .before .before .before .before .before .before .before .before .before .if1 in
     let ast-type = c .before .before .before .before .before .before .before .before .before .before .before .before .before .before .ast-type in
@@ -61,4 +61,4 @@ array-holds t =
     let array-of = c .before .before .before .before .before .before .array-of in
     let enum-told2 = c .before .before .before .before .enum-told2 in
     let intern-array = c .before .before .intern-array in
-    if-false _ _ _ (names-array-expr .ensures .same _) (if1 .left) (then-on (ast-type .ensures) _ (is-typed (element .given .1)) (data-runs _ _ (none-runs _ _ _ (no-array _ (array-of .ensures _) (enum-told2 .given .1)) (interns-runs (ast-type .ensures .ready) (intern-array .ensures))))))  -- returns-4
+    if-false _ _ _ (names-array-expr .ensures .same _) (if1 .left) (then-on (ast-type .ensures) _ (is-typed (element .given .1)) (data-runs _ _ (none-runs _ _ _ (no-array _ (array-of .ensures _) (enum-told2 .given .1)) (interns-runs (ast-type .ensures .ready) (intern-array .ensures))))))

@@ -25,32 +25,32 @@ ast-type-holds t =
     (λ c κs. search needs)  -- type-in-requires
     (λ c. search needs)  -- enum-told
     (λ c. search needs)  -- enum-known-x
-    (λ c κs.
+    (λ c κs.  -- ty-requires
     let pre = c .before .before .before .before .before .before .before .before .before .before .before .before .before .before .before .pre in
     let enter-type = c .before .before .before .before .before .before .before .before .before .before .enter-type in
     let next = c .before .before .before .before .before .before .before .next in
     let type-in = c .before .before .before .before .before .type-in in
     let x = c .before .before .before .x in
-    (enter-falls 3 (omega arith) (enter-type .ensures) (next .given .1) (sym (pre .0)), (entered-ready (pre .1) (enter-type .ensures) (next .given .1), short-type (pre .1) (type-in .ensures) (x .given .1))))  -- ty-requires
+    (enter-falls 3 (omega arith) (enter-type .ensures) (next .given .1) (sym (pre .0)), (entered-ready (pre .1) (enter-type .ensures) (next .given .1), short-type (pre .1) (type-in .ensures) (x .given .1))))
     (λ c. search needs)  -- same-length
-    (λ c.
+    (λ c.  -- returns
     let pre = c .before .before .before .before .before .before .before .before .before .pre in
     let enter-type = c .before .before .before .before .enter-type in
-    entered-stops (pre .1) (enter-type .ensures) ((c .before .n) .given .1) (is-refused refl))  -- returns
+    entered-stops (pre .1) (enter-type .ensures) ((c .before .n) .given .1) (is-refused refl))
     (λ c. search needs)  -- same-length-2
-    (λ c.
+    (λ c.  -- returns-2
     let pre = c .before .before .before .before .before .before .before .before .before .before .before .before .pre in
     let enter-type = c .before .before .before .before .before .before .before .enter-type in
     let next = c .before .before .before .before .next in
     let type-in = c .before .before .type-in in
-    entered-runs (pre .1) (enter-type .ensures) (next .given .1) (type-absent (entered-ready (pre .1) (enter-type .ensures) (next .given .1)) _ _ _ (type-in .ensures) ((c .enum-told) .given .1)))  -- returns-2
+    entered-runs (pre .1) (enter-type .ensures) (next .given .1) (type-absent (entered-ready (pre .1) (enter-type .ensures) (next .given .1)) _ _ _ (type-in .ensures) ((c .enum-told) .given .1)))
     (λ c. search needs)  -- same-length-3
     (λ c. search needs)  -- same-length-4
-    (λ c.
+    (λ c.  -- returns-3
     let pre = c .before .before .before .before .before .before .before .before .before .before .before .before .before .before .before .before .before .before .before .pre in
     let enter-type = c .before .before .before .before .before .before .before .before .before .before .before .before .before .before .enter-type in
     let next = c .before .before .before .before .before .before .before .before .before .before .before .next in
     let type-in = c .before .before .before .before .before .before .before .before .before .type-in in
     let x = c .before .before .before .before .before .before .before .x in
     let ty = c .before .before .before .ty in
-    entered-runs (pre .1) (enter-type .ensures) (next .given .1) (type-found _ _ _ (type-in .ensures) (x .given .1) (ty .ensures)))  -- returns-3
+    entered-runs (pre .1) (enter-type .ensures) (next .given .1) (type-found _ _ _ (type-in .ensures) (x .given .1) (ty .ensures)))

@@ -25,10 +25,10 @@ bin-holds t =
     (λ c. none-runs _ _ _ (ap expression-link-of ((c .enum-told) .given .1)) (refuses ((c .before .before .before .before .before .pre) .1) 6))  -- returns
     (λ c. search needs)  -- enum-known-right
     (λ c. search needs)  -- enum-told-2
-    (λ c.
+    (λ c.  -- returns-2
     let pre = c .before .before .before .before .before .before .before .before .pre in
     let left = c .before .before .before .left in
-    some-runs _ _ _ (ap expression-link-of (left .given .1)) (none-runs _ _ _ (ap expression-link-of ((c .enum-told2) .given .1)) (refuses (pre .1) 6)))  -- returns-2
+    some-runs _ _ _ (ap expression-link-of (left .given .1)) (none-runs _ _ _ (ap expression-link-of ((c .enum-told2) .given .1)) (refuses (pre .1) 6)))
     (λ c κs. search needs)  -- right-first-requires
     (λ c κs. (omega (arith, (c .before .before .before .before .before .before .before .before .before .before .before .before .before .pre) .0), ((c .before .before .before .before .before .before .before .before .before .before .before .before .before .pre) .1)))  -- expr-type-requires
     (λ c. search needs)  -- enum-known-n
@@ -36,30 +36,30 @@ bin-holds t =
     (λ c κs. (omega (arith, (c .before .before .before .before .before .before .before .before .before .before .before .before .before .before .before .before .before .before .before .before .before .before .pre) .0), (c .before .before .before .before .before .before .before .before .expr-type) .ensures .ready))  -- expr-type-requires-2
     (λ c. search needs)  -- enum-known-n-2
     (λ c. search needs)  -- enum-known-x
-    (λ c κs.
+    (λ c κs.  -- binary-result-requires
     let expr-type2 = c .before .before .before .before .before .before .before .expr-type2 in
-    (expr-type2 .ensures .ready .sound, expr-type2 .ensures .ready .ok))  -- binary-result-requires
+    (expr-type2 .ensures .ready .sound, expr-type2 .ensures .ready .ok))
     (λ c κs. (omega (arith, (c .before .before .before .before .before .before .before .before .before .before .before .before .before .pre) .0), ((c .before .before .before .before .before .before .before .before .before .before .before .before .before .pre) .1)))  -- expr-type-requires-3
     (λ c. search needs)  -- enum-known-n-3
     (λ c. search needs)  -- enum-known-x-2
     (λ c κs. (omega (arith, (c .before .before .before .before .before .before .before .before .before .before .before .before .before .before .before .before .before .before .before .before .before .before .pre) .0), (c .before .before .before .before .before .before .before .before .expr-type3) .ensures .ready))  -- expr-type-requires-4
     (λ c. search needs)  -- enum-known-n-4
     (λ c. search needs)  -- enum-known-y-2
-    (λ c κs.
+    (λ c κs.  -- binary-result-requires-2
     let expr-type4 = c .before .before .before .before .before .before .before .expr-type4 in
-    (expr-type4 .ensures .ready .sound, expr-type4 .ensures .ready .ok))  -- binary-result-requires-2
+    (expr-type4 .ensures .ready .sound, expr-type4 .ensures .ready .ok))
     (λ c. search needs)  -- same-length
     (λ c. search needs)  -- same-length-2
-    (λ c.
+    (λ c.  -- returns-3
     let left = c .before .before .before .before .before .before .before .before .before .before .before .before .before .before .before .left in
     let right = c .before .before .before .before .before .before .before .before .before .before .before .before .right in
     let right-first = c .before .before .before .before .before .before .before .before .before .before .right-first in
     let if1 = c .before .before .before .before .before .before .before .before .before .if1 in
     let expr-type = c .before .before .before .before .before .before .expr-type in
-    some-runs _ _ _ (ap expression-link-of (left .given .1)) (some-runs _ _ _ (ap expression-link-of (right .given .1)) (if-true _ _ _ (right-first .ensures .same _) (if1 .taken) (then-stop (expr-type .ensures) _ (is-refused ((c .before .n) .given .1)) (is-refused refl)))))  -- returns-3
+    some-runs _ _ _ (ap expression-link-of (left .given .1)) (some-runs _ _ _ (ap expression-link-of (right .given .1)) (if-true _ _ _ (right-first .ensures .same _) (if1 .taken) (then-stop (expr-type .ensures) _ (is-refused ((c .before .n) .given .1)) (is-refused refl)))))
     (λ c. search needs)  -- same-length-3
     (λ c. search needs)  -- same-length-4
-    (λ c.
+    (λ c.  -- returns-4
     let left = c .before .before .before .before .before .before .before .before .before .before .before .before .before .before .before .before .before .before .before .before .before .before .before .before .left in
     let right = c .before .before .before .before .before .before .before .before .before .before .before .before .before .before .before .before .before .before .before .before .before .right in
     let right-first = c .before .before .before .before .before .before .before .before .before .before .before .before .before .before .before .before .before .before .before .right-first in
@@ -67,10 +67,10 @@ bin-holds t =
     let expr-type = c .before .before .before .before .before .before .before .before .before .before .before .before .before .before .before .expr-type in
     let y = c .before .before .before .before .before .before .before .before .before .before .y in
     let expr-type2 = c .before .before .before .before .before .before .expr-type2 in
-    some-runs _ _ _ (ap expression-link-of (left .given .1)) (some-runs _ _ _ (ap expression-link-of (right .given .1)) (if-true _ _ _ (right-first .ensures .same _) (if1 .taken) (then-on (expr-type .ensures) _ (is-typed (y .given .1)) (then-stop (expr-type2 .ensures) _ (is-refused ((c .before .n2) .given .1)) (is-refused refl))))))  -- returns-4
+    some-runs _ _ _ (ap expression-link-of (left .given .1)) (some-runs _ _ _ (ap expression-link-of (right .given .1)) (if-true _ _ _ (right-first .ensures .same _) (if1 .taken) (then-on (expr-type .ensures) _ (is-typed (y .given .1)) (then-stop (expr-type2 .ensures) _ (is-refused ((c .before .n2) .given .1)) (is-refused refl))))))
     (λ c. search needs)  -- same-length-5
     (λ c. search needs)  -- same-length-6
-    (λ c.
+    (λ c.  -- returns-5
     let left = c .before .before .before .before .before .before .before .before .before .before .before .before .before .before .before .before .before .before .before .before .before .before .before .before .before .before .left in
     let right = c .before .before .before .before .before .before .before .before .before .before .before .before .before .before .before .before .before .before .before .before .before .before .before .right in
     let right-first = c .before .before .before .before .before .before .before .before .before .before .before .before .before .before .before .before .before .before .before .before .before .right-first in
@@ -79,28 +79,28 @@ bin-holds t =
     let y = c .before .before .before .before .before .before .before .before .before .before .before .before .y in
     let expr-type2 = c .before .before .before .before .before .before .before .before .expr-type2 in
     let x = c .before .before .before .x in
-    some-runs _ _ _ (ap expression-link-of (left .given .1)) (some-runs _ _ _ (ap expression-link-of (right .given .1)) (if-true _ _ _ (right-first .ensures .same _) (if1 .taken) (then-on (expr-type .ensures) _ (is-typed (y .given .1)) (then-on (expr-type2 .ensures) _ (is-typed (x .given .1)) (look-runs _ (answers (expr-type2 .ensures .ready) ((c .binary-result) .ensures))))))))  -- returns-5
+    some-runs _ _ _ (ap expression-link-of (left .given .1)) (some-runs _ _ _ (ap expression-link-of (right .given .1)) (if-true _ _ _ (right-first .ensures .same _) (if1 .taken) (then-on (expr-type .ensures) _ (is-typed (y .given .1)) (then-on (expr-type2 .ensures) _ (is-typed (x .given .1)) (look-runs _ (answers (expr-type2 .ensures .ready) ((c .binary-result) .ensures))))))))
     (λ c. search needs)  -- same-length-7
     (λ c. search needs)  -- same-length-8
-    (λ c.
+    (λ c.  -- returns-6
     let right = c .before .before .before .before .before .before .before .before .before .before .before .before .right in
     let right-first = c .before .before .before .before .before .before .before .before .before .before .right-first in
     let if1 = c .before .before .before .before .before .before .before .before .before .if1 in
     let expr-type3 = c .before .before .before .before .before .before .expr-type3 in
-    some-runs _ _ _ (ap expression-link-of ((c .before .before .before .before .before .before .before .before .before .before .before .before .before .before .before .left) .given .1)) (some-runs _ _ _ (ap expression-link-of (right .given .1)) (if-false _ _ _ (right-first .ensures .same _) (if1 .left) (then-stop (expr-type3 .ensures) _ (is-refused ((c .before .n3) .given .1)) (is-refused refl)))))  -- returns-6
+    some-runs _ _ _ (ap expression-link-of ((c .before .before .before .before .before .before .before .before .before .before .before .before .before .before .before .left) .given .1)) (some-runs _ _ _ (ap expression-link-of (right .given .1)) (if-false _ _ _ (right-first .ensures .same _) (if1 .left) (then-stop (expr-type3 .ensures) _ (is-refused ((c .before .n3) .given .1)) (is-refused refl)))))
     (λ c. search needs)  -- same-length-9
     (λ c. search needs)  -- same-length-10
-    (λ c.
+    (λ c.  -- returns-7
     let right = c .before .before .before .before .before .before .before .before .before .before .before .before .before .before .before .before .before .before .before .before .before .right in
     let right-first = c .before .before .before .before .before .before .before .before .before .before .before .before .before .before .before .before .before .before .before .right-first in
     let if1 = c .before .before .before .before .before .before .before .before .before .before .before .before .before .before .before .before .before .before .if1 in
     let expr-type3 = c .before .before .before .before .before .before .before .before .before .before .before .before .before .before .before .expr-type3 in
     let x2 = c .before .before .before .before .before .before .before .before .before .before .x2 in
     let expr-type4 = c .before .before .before .before .before .before .expr-type4 in
-    some-runs _ _ _ (ap expression-link-of ((c .before .before .before .before .before .before .before .before .before .before .before .before .before .before .before .before .before .before .before .before .before .before .before .before .left) .given .1)) (some-runs _ _ _ (ap expression-link-of (right .given .1)) (if-false _ _ _ (right-first .ensures .same _) (if1 .left) (then-on (expr-type3 .ensures) _ (is-typed (x2 .given .1)) (then-stop (expr-type4 .ensures) _ (is-refused ((c .before .n4) .given .1)) (is-refused refl))))))  -- returns-7
+    some-runs _ _ _ (ap expression-link-of ((c .before .before .before .before .before .before .before .before .before .before .before .before .before .before .before .before .before .before .before .before .before .before .before .before .left) .given .1)) (some-runs _ _ _ (ap expression-link-of (right .given .1)) (if-false _ _ _ (right-first .ensures .same _) (if1 .left) (then-on (expr-type3 .ensures) _ (is-typed (x2 .given .1)) (then-stop (expr-type4 .ensures) _ (is-refused ((c .before .n4) .given .1)) (is-refused refl))))))
     (λ c. search needs)  -- same-length-11
     (λ c. search needs)  -- same-length-12
-    (λ c.
+    (λ c.  -- returns-8
     let right = c .before .before .before .before .before .before .before .before .before .before .before .before .before .before .before .before .before .before .before .before .before .before .before .right in
     let right-first = c .before .before .before .before .before .before .before .before .before .before .before .before .before .before .before .before .before .before .before .before .before .right-first in
     let if1 = c .before .before .before .before .before .before .before .before .before .before .before .before .before .before .before .before .before .before .before .before .if1 in
@@ -108,4 +108,4 @@ bin-holds t =
     let x2 = c .before .before .before .before .before .before .before .before .before .before .before .before .x2 in
     let expr-type4 = c .before .before .before .before .before .before .before .before .expr-type4 in
     let y2 = c .before .before .before .y2 in
-    some-runs _ _ _ (ap expression-link-of ((c .before .before .before .before .before .before .before .before .before .before .before .before .before .before .before .before .before .before .before .before .before .before .before .before .before .before .left) .given .1)) (some-runs _ _ _ (ap expression-link-of (right .given .1)) (if-false _ _ _ (right-first .ensures .same _) (if1 .left) (then-on (expr-type3 .ensures) _ (is-typed (x2 .given .1)) (then-on (expr-type4 .ensures) _ (is-typed (y2 .given .1)) (look-runs _ (answers (expr-type4 .ensures .ready) ((c .binary-result2) .ensures))))))))  -- returns-8
+    some-runs _ _ _ (ap expression-link-of ((c .before .before .before .before .before .before .before .before .before .before .before .before .before .before .before .before .before .before .before .before .before .before .before .before .before .before .left) .given .1)) (some-runs _ _ _ (ap expression-link-of (right .given .1)) (if-false _ _ _ (right-first .ensures .same _) (if1 .left) (then-on (expr-type3 .ensures) _ (is-typed (x2 .given .1)) (then-on (expr-type4 .ensures) _ (is-typed (y2 .given .1)) (look-runs _ (answers (expr-type4 .ensures .ready) ((c .binary-result2) .ensures))))))))

@@ -26,11 +26,11 @@ call-holds t =
     (λ c. if-true _ _ _ ((c .before .callee-is-builtin) .ensures .same) ((c .if1) .taken) (answers ((c .before .before .before .before .before .pre) .1) refl))  -- returns
     (λ c. search needs)  -- enum-known-callee
     (λ c. search needs)  -- enum-told
-    (λ c.
+    (λ c.  -- returns-2
     let pre = c .before .before .before .before .before .before .before .pre in
     let callee-is-builtin = c .before .before .before .callee-is-builtin in
     let if1 = c .before .before .if1 in
-    if-false _ _ _ (callee-is-builtin .ensures .same) (if1 .left) (none-runs _ _ _ (ap expression-link-of ((c .enum-told) .given .1)) (answers (pre .1) refl)))  -- returns-2
+    if-false _ _ _ (callee-is-builtin .ensures .same) (if1 .left) (none-runs _ _ _ (ap expression-link-of ((c .enum-told) .given .1)) (answers (pre .1) refl)))
     (λ c κs. (omega (arith, (c .before .before .before .before .before .before .before .before .before .before .pre) .0), ((c .before .before .before .before .before .before .before .before .before .before .pre) .1)))  -- expr-type-requires
     (λ c. search needs)  -- enum-known-n
     (λ c. search needs)  -- enum-known-t
@@ -42,25 +42,25 @@ call-holds t =
     (λ c. search needs)  -- enum-told-3
     (λ c. search needs)  -- same-length
     (λ c. search needs)  -- same-length-2
-    (λ c.
+    (λ c.  -- returns-3
     let callee-is-builtin = c .before .before .before .before .before .before .before .before .before .before .before .before .before .callee-is-builtin in
     let if1 = c .before .before .before .before .before .before .before .before .before .before .before .before .if1 in
     let callee = c .before .before .before .before .before .before .before .before .before .before .callee in
     let expr-type = c .before .before .before .before .before .before .expr-type in
-    if-false _ _ _ (callee-is-builtin .ensures .same) (if1 .left) (some-runs _ _ _ (ap expression-link-of (callee .given .1)) (then-stop (expr-type .ensures) _ (is-refused ((c .before .n) .given .1)) (is-refused refl))))  -- returns-3
+    if-false _ _ _ (callee-is-builtin .ensures .same) (if1 .left) (some-runs _ _ _ (ap expression-link-of (callee .given .1)) (then-stop (expr-type .ensures) _ (is-refused ((c .before .n) .given .1)) (is-refused refl))))
     (λ c. search needs)  -- same-length-3
     (λ c. search needs)  -- same-length-4
-    (λ c.
+    (λ c.  -- returns-4
     let callee-is-builtin = c .before .before .before .before .before .before .before .before .before .before .before .before .before .before .before .before .before .callee-is-builtin in
     let if1 = c .before .before .before .before .before .before .before .before .before .before .before .before .before .before .before .before .if1 in
     let callee = c .before .before .before .before .before .before .before .before .before .before .before .before .before .before .callee in
     let expr-type = c .before .before .before .before .before .before .before .before .before .before .expr-type in
     let t = c .before .before .before .before .before .t in
     let signature-of = c .before .before .signature-of in
-    if-false _ _ _ (callee-is-builtin .ensures .same) (if1 .left) (some-runs _ _ _ (ap expression-link-of (callee .given .1)) (then-on (expr-type .ensures) _ (is-typed (t .given .1)) (data-runs _ _ (none-runs _ _ _ (sym (signature-of .ensures .same _) ∙ ap (found-signature-of _) ((c .enum-told2) .given .1)) (answers (expr-type .ensures .ready) refl))))))  -- returns-4
+    if-false _ _ _ (callee-is-builtin .ensures .same) (if1 .left) (some-runs _ _ _ (ap expression-link-of (callee .given .1)) (then-on (expr-type .ensures) _ (is-typed (t .given .1)) (data-runs _ _ (none-runs _ _ _ (sym (signature-of .ensures .same _) ∙ ap (found-signature-of _) ((c .enum-told2) .given .1)) (answers (expr-type .ensures .ready) refl))))))
     (λ c. search needs)  -- same-length-5
     (λ c. search needs)  -- same-length-6
-    (λ c.
+    (λ c.  -- returns-5
     let callee-is-builtin = c .before .before .before .before .before .before .before .before .before .before .before .before .before .before .before .before .before .before .before .before .before .before .before .before .before .before .before .callee-is-builtin in
     let if1 = c .before .before .before .before .before .before .before .before .before .before .before .before .before .before .before .before .before .before .before .before .before .before .before .before .before .before .if1 in
     let callee = c .before .before .before .before .before .before .before .before .before .before .before .before .before .before .before .before .before .before .before .before .before .before .before .before .callee in
@@ -69,10 +69,10 @@ call-holds t =
     let signature-of = c .before .before .before .before .before .before .before .before .before .before .before .before .signature-of in
     let params = c .before .before .before .before .before .before .before .before .before .before .params in
     let args2 = c .before .before .before .before .before .before .args2 in
-    if-false _ _ _ (callee-is-builtin .ensures .same) (if1 .left) (some-runs _ _ _ (ap expression-link-of (callee .given .1)) (then-on (expr-type .ensures) _ (is-typed (t .given .1)) (data-runs _ _ (some-runs _ _ _ (sym (signature-of .ensures .same _) ∙ ap (found-signature-of _) (params .given .1)) (then-stop (args2 .ensures) _ (not-ignored ((c .before .n2) .given .1)) (is-refused refl)))))))  -- returns-5
+    if-false _ _ _ (callee-is-builtin .ensures .same) (if1 .left) (some-runs _ _ _ (ap expression-link-of (callee .given .1)) (then-on (expr-type .ensures) _ (is-typed (t .given .1)) (data-runs _ _ (some-runs _ _ _ (sym (signature-of .ensures .same _) ∙ ap (found-signature-of _) (params .given .1)) (then-stop (args2 .ensures) _ (not-ignored ((c .before .n2) .given .1)) (is-refused refl)))))))
     (λ c. search needs)  -- same-length-7
     (λ c. search needs)  -- same-length-8
-    (λ c.
+    (λ c.  -- returns-6
     let callee-is-builtin = c .before .before .before .before .before .before .before .before .before .before .before .before .before .before .before .before .before .before .before .before .before .before .before .before .before .before .callee-is-builtin in
     let if1 = c .before .before .before .before .before .before .before .before .before .before .before .before .before .before .before .before .before .before .before .before .before .before .before .before .before .if1 in
     let callee = c .before .before .before .before .before .before .before .before .before .before .before .before .before .before .before .before .before .before .before .before .before .before .before .callee in
@@ -81,4 +81,4 @@ call-holds t =
     let signature-of = c .before .before .before .before .before .before .before .before .before .before .before .signature-of in
     let params = c .before .before .before .before .before .before .before .before .before .params in
     let args2 = c .before .before .before .before .before .args2 in
-    if-false _ _ _ (callee-is-builtin .ensures .same) (if1 .left) (some-runs _ _ _ (ap expression-link-of (callee .given .1)) (then-on (expr-type .ensures) _ (is-typed (t .given .1)) (data-runs _ _ (some-runs _ _ _ (sym (signature-of .ensures .same _) ∙ ap (found-signature-of _) (params .given .1)) (then-on (args2 .ensures) _ (is-ignored ((c .enum-told3) .given .1)) (answers (args2 .ensures .ready) refl)))))))  -- returns-6
+    if-false _ _ _ (callee-is-builtin .ensures .same) (if1 .left) (some-runs _ _ _ (ap expression-link-of (callee .given .1)) (then-on (expr-type .ensures) _ (is-typed (t .given .1)) (data-runs _ _ (some-runs _ _ _ (sym (signature-of .ensures .same _) ∙ ap (found-signature-of _) (params .given .1)) (then-on (args2 .ensures) _ (is-ignored ((c .enum-told3) .given .1)) (answers (args2 .ensures .ready) refl)))))))

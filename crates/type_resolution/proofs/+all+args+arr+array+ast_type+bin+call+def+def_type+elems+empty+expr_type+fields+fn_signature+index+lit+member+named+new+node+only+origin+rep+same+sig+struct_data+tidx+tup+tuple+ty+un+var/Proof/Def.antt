@@ -56,58 +56,58 @@ def-holds t =
     (λ c. search needs)  -- enum-told-5
     (λ c. search needs)  -- same-length
     (λ c. search needs)  -- same-length-2
-    (λ c.
+    (λ c.  -- returns
     let enum-told = c .before .before .before .before .before .before .before .enum-told in
     let fn-signature = c .before .before .before .before .fn-signature in
-    by-kind _ _ _ _ (enum-told .given .1) (or-error-runs (fn-signature .ensures) ((c .or-error) .ensures)))  -- returns
+    by-kind _ _ _ _ (enum-told .given .1) (or-error-runs (fn-signature .ensures) ((c .or-error) .ensures)))
     (λ c. search needs)  -- same-length-3
     (λ c. search needs)  -- same-length-4
-    (λ c.
+    (λ c.  -- returns-2
     let enum-told2 = c .before .before .before .before .before .before .before .enum-told2 in
     let struct-data = c .before .before .before .before .struct-data in
-    by-kind _ _ _ _ (enum-told2 .given .1) (or-error-runs (struct-data .ensures) ((c .or-error2) .ensures)))  -- returns-2
+    by-kind _ _ _ _ (enum-told2 .given .1) (or-error-runs (struct-data .ensures) ((c .or-error2) .ensures)))
     (λ c. search needs)  -- same-length-5
     (λ c. search needs)  -- same-length-6
-    (λ c.
+    (λ c.  -- returns-3
     let kind = c .before .before .before .before .before .before .before .kind in
     let var = c .before .before .before .var in
-    by-kind _ _ _ _ (kind .given .1) (same-runs (const-declared _ _ _ _) (var .ensures)))  -- returns-3
+    by-kind _ _ _ _ (kind .given .1) (same-runs (const-declared _ _ _ _) (var .ensures)))
     (λ c. search needs)  -- same-length-7
     (λ c. search needs)  -- same-length-8
-    (λ c.
+    (λ c.  -- returns-4
     let kind2 = c .before .before .before .before .before .before .before .before .before .kind2 in
     let enum-told3 = c .before .before .before .before .before .before .enum-told3 in
     let var2 = c .before .before .before .var2 in
-    by-kind _ _ _ _ (kind2 .given .1) (let-whole _ _ _ _ _ _ (ap expression-link-of (enum-told3 .given .1)) (same-runs (let-declared _ _ _ _) (var2 .ensures))))  -- returns-4
+    by-kind _ _ _ _ (kind2 .given .1) (let-whole _ _ _ _ _ _ (ap expression-link-of (enum-told3 .given .1)) (same-runs (let-declared _ _ _ _) (var2 .ensures))))
     (λ c. search needs)  -- same-length-9
     (λ c. search needs)  -- same-length-10
-    (λ c.
+    (λ c.  -- returns-5
     let kind2 = c .before .before .before .before .before .before .before .before .before .before .before .before .before .kind2 in
     let v = c .before .before .before .before .before .before .before .before .before .before .v in
     let expr-type = c .before .before .before .before .before .before .expr-type in
-    by-kind _ _ _ _ (kind2 .given .1) (let-part _ _ _ _ _ _ (ap expression-link-of (v .given .1)) (then-stop (expr-type .ensures) _ (is-refused ((c .before .n) .given .1)) (is-refused refl))))  -- returns-5
+    by-kind _ _ _ _ (kind2 .given .1) (let-part _ _ _ _ _ _ (ap expression-link-of (v .given .1)) (then-stop (expr-type .ensures) _ (is-refused ((c .before .n) .given .1)) (is-refused refl))))
     (λ c. search needs)  -- same-length-11
     (λ c. search needs)  -- same-length-12
-    (λ c.
+    (λ c.  -- returns-6
     let kind2 = c .before .before .before .before .before .before .before .before .before .before .before .before .before .before .before .kind2 in
     let v = c .before .before .before .before .before .before .before .before .before .before .before .before .v in
     let expr-type = c .before .before .before .before .before .before .before .before .expr-type in
     let current = c .before .before .before .current in
-    by-kind _ _ _ _ (kind2 .given .1) (let-part _ _ _ _ _ _ (ap expression-link-of (v .given .1)) (then-on (expr-type .ensures) _ (is-typed (current .given .1)) (reads (expr-type .ensures .ready) ((c .navigate) .ensures _)))))  -- returns-6
+    by-kind _ _ _ _ (kind2 .given .1) (let-part _ _ _ _ _ _ (ap expression-link-of (v .given .1)) (then-on (expr-type .ensures) _ (is-typed (current .given .1)) (reads (expr-type .ensures .ready) ((c .navigate) .ensures _)))))
     (λ c. search needs)  -- same-length-13
     (λ c. search needs)  -- same-length-14
     (λ c. by-kind _ _ _ _ ((c .before .before .before .before .before .before .before .kind3) .given .1) ((c .before .before .before .ast-type) .ensures))  -- returns-7
-    (λ c.
+    (λ c.  -- returns-8
     let pre = c .before .before .before .before .before .before .before .before .before .pre in
     let kind4 = c .before .before .before .before .kind4 in
     let imported-definition = c .before .before .imported-definition in
-    by-kind _ _ _ _ (kind4 .given .1) (same-runs (use-shaped _ _ _) (none-runs _ _ _ (sym (imported-definition .ensures .same) ∙ ap found-import-of ((c .enum-told4) .given .1)) (answers (pre .1) refl))))  -- returns-8
+    by-kind _ _ _ _ (kind4 .given .1) (same-runs (use-shaped _ _ _) (none-runs _ _ _ (sym (imported-definition .ensures .same) ∙ ap found-import-of ((c .enum-told4) .given .1)) (answers (pre .1) refl))))
     (λ c. search needs)  -- same-length-15
     (λ c. search needs)  -- same-length-16
-    (λ c.
+    (λ c.  -- returns-9
     let kind4 = c .before .before .before .before .before .before .before .before .before .before .before .kind4 in
     let imported-definition = c .before .before .before .before .before .before .before .before .before .imported-definition in
     let k = c .before .before .before .before .before .before .before .k in
     let def-type = c .before .before .before .def-type in
-    by-kind _ _ _ _ (kind4 .given .1) (same-runs (use-shaped _ _ _) (some-runs _ _ _ (sym (imported-definition .ensures .same) ∙ ap found-import-of (k .given .1)) (def-type .ensures))))  -- returns-9
+    by-kind _ _ _ _ (kind4 .given .1) (same-runs (use-shaped _ _ _) (some-runs _ _ _ (sym (imported-definition .ensures .same) ∙ ap found-import-of (k .given .1)) (def-type .ensures))))
     (λ c. by-kind _ _ _ _ ((c .enum-told5) .given .1) (answers ((c .before .before .before .before .before .pre) .1) refl))  -- returns-10

@@ -24,30 +24,30 @@ def-type-holds t =
     (λ c κs. search needs)  -- definition-in-requires
     (λ c. search needs)  -- enum-told
     (λ c. search needs)  -- enum-known-x
-    (λ c κs.
+    (λ c κs.  -- def-requires
     let pre = c .before .before .before .before .before .before .before .before .before .before .before .before .before .before .before .before .pre in
     let enter-definition = c .before .before .before .before .before .before .before .before .before .before .before .enter-definition in
     let next = c .before .before .before .before .before .before .before .before .next in
-    (enter-falls 2 (omega arith) (enter-definition .ensures) (next .given .1) (sym (pre .0)), entered-ready (pre .1) (enter-definition .ensures) (next .given .1)))  -- def-requires
+    (enter-falls 2 (omega arith) (enter-definition .ensures) (next .given .1) (sym (pre .0)), entered-ready (pre .1) (enter-definition .ensures) (next .given .1)))
     (λ c. search needs)  -- same-length
-    (λ c.
+    (λ c.  -- returns
     let pre = c .before .before .before .before .before .before .before .before .before .pre in
     let enter-definition = c .before .before .before .before .enter-definition in
-    entered-stops (pre .1) (enter-definition .ensures) ((c .before .n) .given .1) (is-refused refl))  -- returns
+    entered-stops (pre .1) (enter-definition .ensures) ((c .before .n) .given .1) (is-refused refl))
     (λ c. search needs)  -- same-length-2
-    (λ c.
+    (λ c.  -- returns-2
     let pre = c .before .before .before .before .before .before .before .before .before .before .before .before .pre in
     let enter-definition = c .before .before .before .before .before .before .before .enter-definition in
     let next = c .before .before .before .before .next in
     let definition-in = c .before .before .definition-in in
-    entered-runs (pre .1) (enter-definition .ensures) (next .given .1) (definition-absent (entered-ready (pre .1) (enter-definition .ensures) (next .given .1)) _ _ (definition-in .ensures) ((c .enum-told) .given .1)))  -- returns-2
+    entered-runs (pre .1) (enter-definition .ensures) (next .given .1) (definition-absent (entered-ready (pre .1) (enter-definition .ensures) (next .given .1)) _ _ (definition-in .ensures) ((c .enum-told) .given .1)))
     (λ c. search needs)  -- same-length-3
     (λ c. search needs)  -- same-length-4
-    (λ c.
+    (λ c.  -- returns-3
     let pre = c .before .before .before .before .before .before .before .before .before .before .before .before .before .before .before .before .before .before .before .before .pre in
     let enter-definition = c .before .before .before .before .before .before .before .before .before .before .before .before .before .before .before .enter-definition in
     let next = c .before .before .before .before .before .before .before .before .before .before .before .before .next in
     let definition-in = c .before .before .before .before .before .before .before .before .before .before .definition-in in
     let x = c .before .before .before .before .before .before .before .before .x in
     let def = c .before .before .before .def in
-    entered-runs (pre .1) (enter-definition .ensures) (next .given .1) (definition-found _ _ (definition-in .ensures) (x .given .1) (def .ensures)))  -- returns-3
+    entered-runs (pre .1) (enter-definition .ensures) (next .given .1) (definition-found _ _ (definition-in .ensures) (x .given .1) (def .ensures)))

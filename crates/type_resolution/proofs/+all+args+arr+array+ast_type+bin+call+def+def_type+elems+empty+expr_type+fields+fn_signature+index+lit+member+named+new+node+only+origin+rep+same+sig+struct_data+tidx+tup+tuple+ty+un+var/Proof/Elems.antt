@@ -49,7 +49,7 @@ elems-holds t =
     (λ c. omega (arith, (c .before .before .before .before .before .types) .given, (c .before .before .before .before .before .before .before .before .before .before .before .before .before .before .before .before .loop) .inv .1 .1 .1 .0))  -- same-length
     (λ c. omega (arith, (c .before .before .before .demands) .given, (c .before .before .before .before .before .before .before .before .before .before .before .before .before .before .before .before .loop) .inv .1 .1 .1 .1 .0))  -- same-length-2
     (λ c. (c .before .before .before .before .before .before .before .before .before .before .before .before .before .before .before .before .loop) .inv .1 .1 .0)  -- same-length-3
-    (λ c.
+    (λ c.  -- returns
     let args = c .before .before .before .before .before .before .before .before .before .before .before .before .before .before .before .before .before .before .before .before .before .args in
     let pre = c .before .before .before .before .before .before .before .before .before .before .before .before .before .before .before .before .before .before .before .before .before .pre in
     let loop = c .before .before .before .before .before .before .before .before .before .before .before .before .before .before .before .before .loop in
@@ -58,14 +58,14 @@ elems-holds t =
     let element = c .before .before .before .before .before .before .before .before .before .before .before .before .element in
     let item = c .before .before .before .before .before .before .before .before .before .item in
     let expr-type = c .before .before .before .before .before .before .expr-type in
-    (elements-stop _ _ _ _ _ (loop .n) (loop .out) (loop .inv .1 .1 .1 .1 .1) _ (loop-test .taken) (item-link .ensures) (element .given .1) (item .ensures ∙ ap (λ l. getElem? l (loop .i)) (types-kept ((loop .inv .1 .1 .1 .1 .1) .grows) (args .contexts) (pre .1 .1 .0))) (expr-type .ensures) _ ((c .before .k) .given .1), at-most-none _ _))  -- returns
+    (elements-stop _ _ _ _ _ (loop .n) (loop .out) (loop .inv .1 .1 .1 .1 .1) _ (loop-test .taken) (item-link .ensures) (element .given .1) (item .ensures ∙ ap (λ l. getElem? l (loop .i)) (types-kept ((loop .inv .1 .1 .1 .1 .1) .grows) (args .contexts) (pre .1 .1 .0))) (expr-type .ensures) _ ((c .before .k) .given .1), at-most-none _ _))
     (λ c. search needs)  -- enum-known-t
     (λ c. let good = (c .before .before .before .before .before .before .before .before .before .before .before .before .before .before .before .before .before .before .before .before .before .good) in omega (arith, (c .before .before .before .before .before .before .before .before .before .before .before .before .before .before .before .loop-test) .taken, (c .before .before .before .before .before .before .before .before .before .before .before .before .before .before .before .before .loop) .inv .1 .0))  -- mul-out
     (λ c. omega (arith, (c .before .before .before .before .before .before .before .before .before .before .before .before .before .before .before .loop-test) .taken, (c .before .before .before .before .before .before .before .before .before .before .before .before .before .before .before .before .loop) .inv .1 .0, (c .before .before .before .before .before .before .before .before .before .before .before .before .before .before .before .before .loop) .inv .1 .1 .0, (c .before .before .before .before .before .before .before .before .before .before .before .before .before .before .before .before .before .before .before .before .before .pre) .1 .1 .1))  -- slice-write-out
     (λ c. let good = (c .before .before .before .before .before .before .before .before .before .before .before .before .before .before .before .before .before .before .before .before .before .good) in omega (arith, (c .before .before .before .before .before .before .before .before .before .before .before .before .before .before .before .loop-test) .taken, (c .before .before .before .before .before .before .before .before .before .before .before .before .before .before .before .before .loop) .inv .1 .0))  -- add-n
     (λ c. let good = (c .before .before .before .before .before .before .before .before .before .before .before .before .before .before .before .before .before .before .before .before .before .good) in omega (arith, (c .before .before .before .before .before .before .before .before .before .before .before .before .before .before .before .loop-test) .taken))  -- add-i-2
     (λ c. omega (arith, (c .before .before .before .before .before .before .before .before .before .before .before .before .before .before .before .loop-test) .taken))  -- loop-less-2
-    (λ c.
+    (λ c.  -- loop-again-2
     let args = c .before .before .before .before .before .before .before .before .before .before .before .before .before .before .before .before .before .before .before .before .before .args in
     let pre = c .before .before .before .before .before .before .before .before .before .before .before .before .before .before .before .before .before .before .before .before .before .pre in
     let loop = c .before .before .before .before .before .before .before .before .before .before .before .before .before .before .before .before .loop in
@@ -76,7 +76,7 @@ elems-holds t =
     let expr-type = c .before .before .before .before .before .before .expr-type in
     let types = c .before .before .before .before .before .types in
     let demands = c .before .before .before .demands in
-    (omega (arith, loop-test .taken), (omega (arith, loop .inv .1 .0), (length-set (loop .out) (loop .n) ((c .before .t) .given .0 .0) ∙ loop .inv .1 .1 .0, (omega (arith, types .given, loop .inv .1 .1 .1 .0), (omega (arith, demands .given, loop .inv .1 .1 .1 .1 .0), elements-more _ _ _ _ _ (loop .n) (loop .out) (loop .inv .1 .1 .1 .1 .1) _ (loop-test .taken) (item-link .ensures) (element .given .1) (item .ensures ∙ ap (λ l. getElem? l (loop .i)) (types-kept ((loop .inv .1 .1 .1 .1 .1) .grows) (args .contexts) (pre .1 .1 .0))) (expr-type .ensures) ((c .before .t) .given .1) (omega (arith, loop-test .taken, loop .inv .1 .0, loop .inv .1 .1 .0, pre .1 .1 .1))))))))  -- loop-again-2
+    (omega (arith, loop-test .taken), (omega (arith, loop .inv .1 .0), (length-set (loop .out) (loop .n) ((c .before .t) .given .0 .0) ∙ loop .inv .1 .1 .0, (omega (arith, types .given, loop .inv .1 .1 .1 .0), (omega (arith, demands .given, loop .inv .1 .1 .1 .1 .0), elements-more _ _ _ _ _ (loop .n) (loop .out) (loop .inv .1 .1 .1 .1 .1) _ (loop-test .taken) (item-link .ensures) (element .given .1) (item .ensures ∙ ap (λ l. getElem? l (loop .i)) (types-kept ((loop .inv .1 .1 .1 .1 .1) .grows) (args .contexts) (pre .1 .1 .0))) (expr-type .ensures) ((c .before .t) .given .1) (omega (arith, loop-test .taken, loop .inv .1 .0, loop .inv .1 .1 .0, pre .1 .1 .1))))))))
     (λ c. (c .before .loop) .inv .1 .1 .1 .0)  -- same-length-4
     (λ c. (c .before .loop) .inv .1 .1 .1 .1 .0)  -- same-length-5
     (λ c. (c .before .loop) .inv .1 .1 .0)  -- same-length-6

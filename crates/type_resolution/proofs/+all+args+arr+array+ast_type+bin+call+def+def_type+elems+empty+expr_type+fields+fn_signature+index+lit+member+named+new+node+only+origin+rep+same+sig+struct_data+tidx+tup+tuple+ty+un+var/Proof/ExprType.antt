@@ -26,55 +26,55 @@ expr-type-holds t =
     (λ c κs. search needs)  -- expression-in-requires
     (λ c. search needs)  -- enum-told
     (λ c. search needs)  -- enum-known-info
-    (λ c κs.
+    (λ c κs.  -- origin-requires
     let pre = c .before .before .before .before .before .before .before .before .before .before .before .before .before .before .before .pre in
     let enter-expression = c .before .before .before .before .before .before .before .before .before .before .enter-expression in
     let next = c .before .before .before .before .before .before .before .next in
-    (enter-falls 1 (omega arith) (enter-expression .ensures) (next .given .1) (sym (pre .0)), (entered-ready (pre .1) (enter-expression .ensures) (next .given .1))))  -- origin-requires
+    (enter-falls 1 (omega arith) (enter-expression .ensures) (next .given .1) (sym (pre .0)), (entered-ready (pre .1) (enter-expression .ensures) (next .given .1))))
     (λ c. search needs)  -- enum-known-n-2
     (λ c. search needs)  -- enum-known-t
-    (λ c κs.
+    (λ c κs.  -- node-requires
     let pre = c .before .before .before .before .before .before .before .before .before .before .before .before .before .before .before .before .before .before .before .before .before .before .before .before .pre in
     let enter-expression = c .before .before .before .before .before .before .before .before .before .before .before .before .before .before .before .before .before .before .before .enter-expression in
     let next = c .before .before .before .before .before .before .before .before .before .before .before .before .before .before .before .before .next in
     let expression-in = c .before .before .before .before .before .before .before .before .before .before .before .before .before .before .expression-in in
     let info = c .before .before .before .before .before .before .before .before .before .before .before .before .info in
     let origin = c .before .before .before .before .before .before .before .before .origin in
-    (enter-falls 4 (omega arith) (enter-expression .ensures) (next .given .1) (sym (pre .0)), (origin .ensures .ready, short-node (pre .1) (expression-in .ensures) (info .given .1))))  -- node-requires
+    (enter-falls 4 (omega arith) (enter-expression .ensures) (next .given .1) (sym (pre .0)), (origin .ensures .ready, short-node (pre .1) (expression-in .ensures) (info .given .1))))
     (λ c. search needs)  -- enum-told-2
-    (λ c κs.
+    (λ c κs.  -- node-requires-2
     let pre = c .before .before .before .before .before .before .before .before .before .before .before .before .before .before .before .before .before .before .before .before .before .before .before .pre in
     let enter-expression = c .before .before .before .before .before .before .before .before .before .before .before .before .before .before .before .before .before .before .enter-expression in
     let next = c .before .before .before .before .before .before .before .before .before .before .before .before .before .before .before .next in
     let expression-in = c .before .before .before .before .before .before .before .before .before .before .before .before .before .expression-in in
     let info = c .before .before .before .before .before .before .before .before .before .before .before .info in
     let origin = c .before .before .before .before .before .before .before .origin in
-    (enter-falls 4 (omega arith) (enter-expression .ensures) (next .given .1) (sym (pre .0)), (origin .ensures .ready, short-node (pre .1) (expression-in .ensures) (info .given .1))))  -- node-requires-2
+    (enter-falls 4 (omega arith) (enter-expression .ensures) (next .given .1) (sym (pre .0)), (origin .ensures .ready, short-node (pre .1) (expression-in .ensures) (info .given .1))))
     (λ c. search needs)  -- same-length
-    (λ c.
+    (λ c.  -- returns
     let pre = c .before .before .before .before .before .before .before .before .before .pre in
     let enter-expression = c .before .before .before .before .enter-expression in
-    entered-stops (pre .1) (enter-expression .ensures) ((c .before .n) .given .1) (is-refused refl))  -- returns
+    entered-stops (pre .1) (enter-expression .ensures) ((c .before .n) .given .1) (is-refused refl))
     (λ c. search needs)  -- same-length-2
-    (λ c.
+    (λ c.  -- returns-2
     let pre = c .before .before .before .before .before .before .before .before .before .before .before .before .pre in
     let enter-expression = c .before .before .before .before .before .before .before .enter-expression in
     let next = c .before .before .before .before .next in
     let expression-in = c .before .before .expression-in in
-    entered-runs (pre .1) (enter-expression .ensures) (next .given .1) (expression-absent (entered-ready (pre .1) (enter-expression .ensures) (next .given .1)) _ _ _ (expression-in .ensures) ((c .enum-told) .given .1)))  -- returns-2
+    entered-runs (pre .1) (enter-expression .ensures) (next .given .1) (expression-absent (entered-ready (pre .1) (enter-expression .ensures) (next .given .1)) _ _ _ (expression-in .ensures) ((c .enum-told) .given .1)))
     (λ c. search needs)  -- same-length-3
     (λ c. search needs)  -- same-length-4
-    (λ c.
+    (λ c.  -- returns-3
     let pre = c .before .before .before .before .before .before .before .before .before .before .before .before .before .before .before .before .before .before .before .before .before .before .pre in
     let enter-expression = c .before .before .before .before .before .before .before .before .before .before .before .before .before .before .before .before .before .enter-expression in
     let next = c .before .before .before .before .before .before .before .before .before .before .before .before .before .before .next in
     let expression-in = c .before .before .before .before .before .before .before .before .before .before .before .before .expression-in in
     let info = c .before .before .before .before .before .before .before .before .before .before .info in
     let origin = c .before .before .before .before .before .before .origin in
-    entered-runs (pre .1) (enter-expression .ensures) (next .given .1) (expression-found _ _ _ (expression-in .ensures) (info .given .1) (then-stop (origin .ensures) _ (not-linked ((c .before .n2) .given .1)) (is-refused refl))))  -- returns-3
+    entered-runs (pre .1) (enter-expression .ensures) (next .given .1) (expression-found _ _ _ (expression-in .ensures) (info .given .1) (then-stop (origin .ensures) _ (not-linked ((c .before .n2) .given .1)) (is-refused refl))))
     (λ c. search needs)  -- same-length-5
     (λ c. omega (arith, (c .demands3) .given, (c .before .before .before .before .before .before .before .before .before .demands2) .given, (c .before .before .before .before .before .before .before .before .before .before .before .before .before .before .before .before .before .before .before .before .before .before .demands) .given))  -- same-length-6
-    (λ c.
+    (λ c.  -- returns-4
     let pre = c .before .before .before .before .before .before .before .before .before .before .before .before .before .before .before .before .before .before .before .before .before .before .before .before .before .before .before .before .pre in
     let enter-expression = c .before .before .before .before .before .before .before .before .before .before .before .before .before .before .before .before .before .before .before .before .before .before .before .enter-expression in
     let next = c .before .before .before .before .before .before .before .before .before .before .before .before .before .before .before .before .before .before .before .before .next in
@@ -83,10 +83,10 @@ expr-type-holds t =
     let origin = c .before .before .before .before .before .before .before .before .before .before .before .before .origin in
     let t = c .before .before .before .before .before .before .before .t in
     let node = c .before .before .before .node in
-    entered-runs (pre .1) (enter-expression .ensures) (next .given .1) (expression-found _ _ _ (expression-in .ensures) (info .given .1) (then-on (origin .ensures) _ (is-known (t .given .1)) (node .ensures))))  -- returns-4
+    entered-runs (pre .1) (enter-expression .ensures) (next .given .1) (expression-found _ _ _ (expression-in .ensures) (info .given .1) (then-on (origin .ensures) _ (is-known (t .given .1)) (node .ensures))))
     (λ c. search needs)  -- same-length-7
     (λ c. omega (arith, (c .demands4) .given, (c .before .before .before .before .before .before .before .before .demands2) .given, (c .before .before .before .before .before .before .before .before .before .before .before .before .before .before .before .before .before .before .before .before .before .demands) .given))  -- same-length-8
-    (λ c.
+    (λ c.  -- returns-5
     let pre = c .before .before .before .before .before .before .before .before .before .before .before .before .before .before .before .before .before .before .before .before .before .before .before .before .before .before .before .pre in
     let enter-expression = c .before .before .before .before .before .before .before .before .before .before .before .before .before .before .before .before .before .before .before .before .before .before .enter-expression in
     let next = c .before .before .before .before .before .before .before .before .before .before .before .before .before .before .before .before .before .before .before .next in
@@ -95,4 +95,4 @@ expr-type-holds t =
     let origin = c .before .before .before .before .before .before .before .before .before .before .before .origin in
     let enum-told2 = c .before .before .before .before .before .before .enum-told2 in
     let node2 = c .before .before .before .node2 in
-    entered-runs (pre .1) (enter-expression .ensures) (next .given .1) (expression-found _ _ _ (expression-in .ensures) (info .given .1) (then-on (origin .ensures) _ (is-absent (enum-told2 .given .1)) (node2 .ensures))))  -- returns-5
+    entered-runs (pre .1) (enter-expression .ensures) (next .given .1) (expression-found _ _ _ (expression-in .ensures) (info .given .1) (then-on (origin .ensures) _ (is-absent (enum-told2 .given .1)) (node2 .ensures))))

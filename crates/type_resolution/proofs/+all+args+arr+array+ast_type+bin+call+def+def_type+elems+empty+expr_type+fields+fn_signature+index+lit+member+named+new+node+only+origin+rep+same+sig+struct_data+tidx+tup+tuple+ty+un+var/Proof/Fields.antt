@@ -27,22 +27,22 @@ fields-holds t =
     (λ c. search needs)  -- enum-known-n-2
     (λ c. let most = (c .before .before .before .before .before .before .before .before .all) .ensures .1 .number _ ((c .before .before .n2) .given .1) in omega (arith, most, (c .before .before .before .before .elements2) .given, (c .before .before .before .before .before .before .before .before .before .before .before .before .before .before .before .pre) .1 .1))  -- array-share-prefix-elements
     (λ c. let most = (c .before .before .before .before .before .before .before .before .before .all) .ensures .1 .number _ ((c .before .before .before .n2) .given .1) in taken-length ((c .before .before .before .n2) .given .0 .0) ((c .before .before .before .before .before .before .before .before .before .all) .last .1 .1 .1 .1 .1 .1 .1 .1 .0) (omega (arith, most, (c .before .before .before .before .before .elements2) .given, (c .before .before .before .before .before .before .before .before .before .before .before .before .before .before .before .before .pre) .1 .1)))  -- slice-aggregate-intern-struct
-    (λ c κs.
+    (λ c κs.  -- intern-struct-requires
     let pre = c .before .before .before .before .before .before .before .before .before .before .before .before .before .before .before .before .pre in
     let all = c .before .before .before .before .before .before .before .before .before .all in
     let elements2 = c .before .before .before .before .before .elements2 in
     let n2 = c .before .before .before .n2 in
-    (all .ensures .0 .ready .sound, ((let most = all .ensures .1 .number _ (n2 .given .1) in sym (taken-length (n2 .given .0 .0) (all .last .1 .1 .1 .1 .1 .1 .1 .1 .0) (omega (arith, most, elements2 .given, pre .1 .1))) ∙ most, pre .1 .1), collected-below (pre .1 .0) _ _ _ _ (all .ensures .0) (n2 .given .1))))  -- intern-struct-requires
+    (all .ensures .0 .ready .sound, ((let most = all .ensures .1 .number _ (n2 .given .1) in sym (taken-length (n2 .given .0 .0) (all .last .1 .1 .1 .1 .1 .1 .1 .1 .0) (omega (arith, most, elements2 .given, pre .1 .1))) ∙ most, pre .1 .1), collected-below (pre .1 .0) _ _ _ _ (all .ensures .0) (n2 .given .1))))
     (λ c κs. search needs)  -- known-requires
     (λ c. search needs)  -- same-length
     (λ c. search needs)  -- same-length-2
-    (λ c.
+    (λ c.  -- returns
     let all = c .before .before .before .before .before .before .before .all in
-    same-runs (struct-listed _ _ _ _ _ _ _) (then-stop (all .ensures .0) _ (not-collected _ ((c .before .n) .given .1)) (not-linked refl)))  -- returns
+    same-runs (struct-listed _ _ _ _ _ _ _) (then-stop (all .ensures .0) _ (not-collected _ ((c .before .n) .given .1)) (not-linked refl)))
     (λ c. search needs)  -- same-length-3
     (λ c. search needs)  -- same-length-4
-    (λ c.
+    (λ c.  -- returns-2
     let all = c .before .before .before .before .before .before .before .before .before .before .before .before .before .all in
     let n2 = c .before .before .before .before .before .before .before .n2 in
     let intern-struct = c .before .before .before .intern-struct in
-    same-runs (struct-listed _ _ _ _ _ _ _) (then-on (all .ensures .0) _ (is-collected _ (n2 .given .1)) (known-runs (interns-runs (all .ensures .0 .ready) (intern-struct .ensures)) ((c .known) .ensures))))  -- returns-2
+    same-runs (struct-listed _ _ _ _ _ _ _) (then-on (all .ensures .0) _ (is-collected _ (n2 .given .1)) (known-runs (interns-runs (all .ensures .0 .ready) (intern-struct .ensures)) ((c .known) .ensures))))

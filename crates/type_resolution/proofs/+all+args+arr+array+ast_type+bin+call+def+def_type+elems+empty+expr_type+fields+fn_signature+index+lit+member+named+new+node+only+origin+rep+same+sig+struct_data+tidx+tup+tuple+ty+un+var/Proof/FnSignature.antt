@@ -30,7 +30,7 @@ fn-signature-holds t =
     (λ c κs. search needs)  -- function-parts-requires
     (λ c. search needs)  -- enum-told-2
     (λ c. search needs)  -- enum-known-t
-    (λ c κs.
+    (λ c κs.  -- sig-requires
     let pre = c .before .before .before .before .before .before .before .before .before .before .before .before .before .before .before .before .before .before .before .before .pre in
     let enter-signature = c .before .before .before .before .before .before .before .before .before .before .before .before .before .before .before .enter-signature in
     let next = c .before .before .before .before .before .before .before .before .before .before .before .before .next in
@@ -38,31 +38,31 @@ fn-signature-holds t =
     let x = c .before .before .before .before .before .before .before .before .x in
     let function-parts = c .before .before .before .before .before .function-parts in
     let t = c .before .before .before .t in
-    (enter-falls 2 (omega arith) (enter-signature .ensures) (next .given .1) (sym (pre .0)), ((entered-ready (pre .1) (enter-signature .ensures) (next .given .1)), short-params (pre .1) (definition-in .ensures) (x .given .1) (function-parts .ensures) (t .given .1))))  -- sig-requires
+    (enter-falls 2 (omega arith) (enter-signature .ensures) (next .given .1) (sym (pre .0)), ((entered-ready (pre .1) (enter-signature .ensures) (next .given .1)), short-params (pre .1) (definition-in .ensures) (x .given .1) (function-parts .ensures) (t .given .1))))
     (λ c. search needs)  -- same-length
-    (λ c.
+    (λ c.  -- returns
     let pre = c .before .before .before .before .before .before .before .before .before .pre in
     let enter-signature = c .before .before .before .before .enter-signature in
-    entered-stops (pre .1) (enter-signature .ensures) ((c .before .n) .given .1) (not-linked refl))  -- returns
+    entered-stops (pre .1) (enter-signature .ensures) ((c .before .n) .given .1) (not-linked refl))
     (λ c. search needs)  -- same-length-2
-    (λ c.
+    (λ c.  -- returns-2
     let pre = c .before .before .before .before .before .before .before .before .before .before .before .before .pre in
     let enter-signature = c .before .before .before .before .before .before .before .enter-signature in
     let next = c .before .before .before .before .next in
     let definition-in = c .before .before .definition-in in
-    entered-runs (pre .1) (enter-signature .ensures) (next .given .1) (signature-absent (entered-ready (pre .1) (enter-signature .ensures) (next .given .1)) _ _ (definition-in .ensures) ((c .enum-told) .given .1)))  -- returns-2
+    entered-runs (pre .1) (enter-signature .ensures) (next .given .1) (signature-absent (entered-ready (pre .1) (enter-signature .ensures) (next .given .1)) _ _ (definition-in .ensures) ((c .enum-told) .given .1)))
     (λ c. search needs)  -- same-length-3
-    (λ c.
+    (λ c.  -- returns-3
     let pre = c .before .before .before .before .before .before .before .before .before .before .before .before .before .before .before .before .before .pre in
     let enter-signature = c .before .before .before .before .before .before .before .before .before .before .before .before .enter-signature in
     let next = c .before .before .before .before .before .before .before .before .before .next in
     let definition-in = c .before .before .before .before .before .before .before .definition-in in
     let x = c .before .before .before .before .before .x in
     let function-parts = c .before .before .function-parts in
-    entered-runs (pre .1) (enter-signature .ensures) (next .given .1) (signature-found _ _ (definition-in .ensures) (x .given .1) (no-function (entered-ready (pre .1) (enter-signature .ensures) (next .given .1)) _ _ _ _ (function-parts .ensures) ((c .enum-told2) .given .1))))  -- returns-3
+    entered-runs (pre .1) (enter-signature .ensures) (next .given .1) (signature-found _ _ (definition-in .ensures) (x .given .1) (no-function (entered-ready (pre .1) (enter-signature .ensures) (next .given .1)) _ _ _ _ (function-parts .ensures) ((c .enum-told2) .given .1))))
     (λ c. search needs)  -- same-length-4
     (λ c. search needs)  -- same-length-5
-    (λ c.
+    (λ c.  -- returns-4
     let pre = c .before .before .before .before .before .before .before .before .before .before .before .before .before .before .before .before .before .before .before .before .before .before .before .before .pre in
     let enter-signature = c .before .before .before .before .before .before .before .before .before .before .before .before .before .before .before .before .before .before .before .enter-signature in
     let next = c .before .before .before .before .before .before .before .before .before .before .before .before .before .before .before .before .next in
@@ -71,4 +71,4 @@ fn-signature-holds t =
     let function-parts = c .before .before .before .before .before .before .before .before .before .function-parts in
     let t = c .before .before .before .before .before .before .before .t in
     let sig = c .before .before .before .sig in
-    entered-runs (pre .1) (enter-signature .ensures) (next .given .1) (signature-found _ _ (definition-in .ensures) (x .given .1) (function-parted _ _ _ _ _ _ (function-parts .ensures) (t .given .1) (sig .ensures))))  -- returns-4
+    entered-runs (pre .1) (enter-signature .ensures) (next .given .1) (signature-found _ _ (definition-in .ensures) (x .given .1) (function-parted _ _ _ _ _ _ (function-parts .ensures) (t .given .1) (sig .ensures))))

@@ -28,29 +28,29 @@ index-holds t =
     (λ c. search needs)  -- enum-known-n-2
     (λ c. search needs)  -- enum-told-2
     (λ c κs. search needs)  -- element-type-requires
-    (λ c.
+    (λ c.  -- returns
     let pre = c .before .before .before .before .before .pre in
-    same-runs (index-reads _ _ _) (none-runs _ _ _ (ap expression-link-of ((c .enum-told) .given .1)) (answers (pre .1) refl)))  -- returns
+    same-runs (index-reads _ _ _) (none-runs _ _ _ (ap expression-link-of ((c .enum-told) .given .1)) (answers (pre .1) refl)))
     (λ c. search needs)  -- same-length
     (λ c. search needs)  -- same-length-2
-    (λ c.
+    (λ c.  -- returns-2
     let a = c .before .before .before .before .before .before .before .before .before .before .a in
     let expr-type = c .before .before .before .before .before .before .expr-type in
-    same-runs (index-reads _ _ _) (some-runs _ _ _ (ap expression-link-of (a .given .1)) (then-stop (expr-type .ensures) _ (is-refused ((c .before .n) .given .1)) (is-refused refl))))  -- returns-2
+    same-runs (index-reads _ _ _) (some-runs _ _ _ (ap expression-link-of (a .given .1)) (then-stop (expr-type .ensures) _ (is-refused ((c .before .n) .given .1)) (is-refused refl))))
     (λ c. search needs)  -- same-length-3
     (λ c. search needs)  -- same-length-4
-    (λ c.
+    (λ c.  -- returns-3
     let a = c .before .before .before .before .before .before .before .before .before .before .before .before .before .before .before .before .before .before .before .a in
     let expr-type = c .before .before .before .before .before .before .before .before .before .before .before .before .before .before .before .expr-type in
     let t = c .before .before .before .before .before .before .before .before .before .before .t in
     let only = c .before .before .before .before .before .before .only in
-    same-runs (index-reads _ _ _) (some-runs _ _ _ (ap expression-link-of (a .given .1)) (then-on (expr-type .ensures) _ (is-typed (t .given .1)) (then-stop (only .ensures) _ (not-ignored ((c .before .n2) .given .1)) (is-refused refl)))))  -- returns-3
+    same-runs (index-reads _ _ _) (some-runs _ _ _ (ap expression-link-of (a .given .1)) (then-on (expr-type .ensures) _ (is-typed (t .given .1)) (then-stop (only .ensures) _ (not-ignored ((c .before .n2) .given .1)) (is-refused refl)))))
     (λ c. search needs)  -- same-length-5
     (λ c. search needs)  -- same-length-6
-    (λ c.
+    (λ c.  -- returns-4
     let a = c .before .before .before .before .before .before .before .before .before .before .before .before .before .before .before .before .before .before .before .before .a in
     let expr-type = c .before .before .before .before .before .before .before .before .before .before .before .before .before .before .before .before .expr-type in
     let t = c .before .before .before .before .before .before .before .before .before .before .before .t in
     let only = c .before .before .before .before .before .before .before .only in
     let enum-told2 = c .before .before .enum-told2 in
-    same-runs (index-reads _ _ _) (some-runs _ _ _ (ap expression-link-of (a .given .1)) (then-on (expr-type .ensures) _ (is-typed (t .given .1)) (then-on (only .ensures) _ (is-ignored (enum-told2 .given .1)) (reads (only .ensures .ready) ((c .element-type) .ensures _))))))  -- returns-4
+    same-runs (index-reads _ _ _) (some-runs _ _ _ (ap expression-link-of (a .given .1)) (then-on (expr-type .ensures) _ (is-typed (t .given .1)) (then-on (only .ensures) _ (is-ignored (enum-told2 .given .1)) (reads (only .ensures .ready) ((c .element-type) .ensures _))))))

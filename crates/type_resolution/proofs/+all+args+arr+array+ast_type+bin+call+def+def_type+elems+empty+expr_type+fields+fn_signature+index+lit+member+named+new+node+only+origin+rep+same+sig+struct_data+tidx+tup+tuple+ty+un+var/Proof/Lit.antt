@@ -34,31 +34,31 @@ lit-holds t =
     (λ c. search needs)  -- enum-known-n
     (λ c. search needs)  -- enum-known-x
     (λ c κs. search needs)  -- numeric-or-requires
-    (λ c.
+    (λ c.  -- returns
     let pre = c .before .before .before .before .before .before .before .pre in
     let suffix-type = c .before .before .before .suffix-type in
-    same-runs (literal-numbered _ _ _ _ _) (some-runs _ _ _ (sym (suffix-type .ensures) ∙ ap found-type-of ((c .before .t) .given .1)) (answers (pre .1) refl)))  -- returns
+    same-runs (literal-numbered _ _ _ _ _) (some-runs _ _ _ (sym (suffix-type .ensures) ∙ ap found-type-of ((c .before .t) .given .1)) (answers (pre .1) refl)))
     (λ c. search needs)  -- same-length
-    (λ c.
+    (λ c.  -- returns-2
     let pre = c .before .before .before .before .before .before .before .before .before .before .pre in
     let suffix-type = c .before .before .before .before .before .before .suffix-type in
     let enum-told = c .before .before .before .before .enum-told in
     let enum-told2 = c .before .before .enum-told2 in
-    same-runs (literal-numbered _ _ _ _ _) (none-runs _ _ _ (sym (suffix-type .ensures) ∙ ap found-type-of (enum-told .given .1)) (none-runs _ _ _ (ap type-link-of (enum-told2 .given .1)) (none-runs _ _ _ refl (reads (pre .1) ((c .numeric-context) .ensures _))))))  -- returns-2
+    same-runs (literal-numbered _ _ _ _ _) (none-runs _ _ _ (sym (suffix-type .ensures) ∙ ap found-type-of (enum-told .given .1)) (none-runs _ _ _ (ap type-link-of (enum-told2 .given .1)) (none-runs _ _ _ refl (reads (pre .1) ((c .numeric-context) .ensures _))))))
     (λ c. search needs)  -- same-length-2
     (λ c. search needs)  -- same-length-3
-    (λ c.
+    (λ c.  -- returns-3
     let suffix-type = c .before .before .before .before .before .before .before .before .before .before .before .before .before .before .suffix-type in
     let enum-told = c .before .before .before .before .before .before .before .before .before .before .before .before .enum-told in
     let expected = c .before .before .before .before .before .before .before .before .before .before .expected in
     let ast-type = c .before .before .before .before .before .before .ast-type in
-    same-runs (literal-numbered _ _ _ _ _) (none-runs _ _ _ (sym (suffix-type .ensures) ∙ ap found-type-of (enum-told .given .1)) (some-runs _ _ _ (ap type-link-of (expected .given .1)) (then-stop (ast-type .ensures) _ (is-refused ((c .before .n) .given .1)) (is-refused refl)))))  -- returns-3
+    same-runs (literal-numbered _ _ _ _ _) (none-runs _ _ _ (sym (suffix-type .ensures) ∙ ap found-type-of (enum-told .given .1)) (some-runs _ _ _ (ap type-link-of (expected .given .1)) (then-stop (ast-type .ensures) _ (is-refused ((c .before .n) .given .1)) (is-refused refl)))))
     (λ c. search needs)  -- same-length-4
     (λ c. search needs)  -- same-length-5
-    (λ c.
+    (λ c.  -- returns-4
     let suffix-type = c .before .before .before .before .before .before .before .before .before .before .before .before .before .before .before .before .suffix-type in
     let enum-told = c .before .before .before .before .before .before .before .before .before .before .before .before .before .before .enum-told in
     let expected = c .before .before .before .before .before .before .before .before .before .before .before .before .expected in
     let ast-type = c .before .before .before .before .before .before .before .before .ast-type in
     let x = c .before .before .before .x in
-    same-runs (literal-numbered _ _ _ _ _) (none-runs _ _ _ (sym (suffix-type .ensures) ∙ ap found-type-of (enum-told .given .1)) (some-runs _ _ _ (ap type-link-of (expected .given .1)) (then-on (ast-type .ensures) _ (is-typed (x .given .1)) (look-runs _ (numeric-runs (ast-type .ensures .ready) ((c .numeric-or) .ensures)))))))  -- returns-4
+    same-runs (literal-numbered _ _ _ _ _) (none-runs _ _ _ (sym (suffix-type .ensures) ∙ ap found-type-of (enum-told .given .1)) (some-runs _ _ _ (ap type-link-of (expected .given .1)) (then-on (ast-type .ensures) _ (is-typed (x .given .1)) (look-runs _ (numeric-runs (ast-type .ensures .ready) ((c .numeric-or) .ensures)))))))

@@ -28,14 +28,14 @@ named-holds t =
     (λ c. none-runs _ _ _ (ap definition-link-of ((c .enum-told) .given .1)) (answers ((c .before .before .before .before .before .pre) .1) refl))  -- returns
     (λ c. search needs)  -- same-length
     (λ c. search needs)  -- same-length-2
-    (λ c.
+    (λ c.  -- returns-2
     let found = c .before .before .before .before .before .before .before .before .before .before .found in
     let def-type = c .before .before .before .before .before .before .def-type in
-    some-runs _ _ _ (ap definition-link-of (found .given .1)) (then-stop (def-type .ensures) _ (is-refused ((c .before .n) .given .1)) (is-refused refl)))  -- returns-2
+    some-runs _ _ _ (ap definition-link-of (found .given .1)) (then-stop (def-type .ensures) _ (is-refused ((c .before .n) .given .1)) (is-refused refl)))
     (λ c. search needs)  -- same-length-3
     (λ c. search needs)  -- same-length-4
-    (λ c.
+    (λ c.  -- returns-3
     let found = c .before .before .before .before .before .before .before .before .before .before .before .before .found in
     let def-type = c .before .before .before .before .before .before .before .before .def-type in
     let t = c .before .before .before .t in
-    some-runs _ _ _ (ap definition-link-of (found .given .1)) (then-on (def-type .ensures) _ (is-typed (t .given .1)) (reads (def-type .ensures .ready) ((c .struct-or-error) .ensures _))))  -- returns-3
+    some-runs _ _ _ (ap definition-link-of (found .given .1)) (then-on (def-type .ensures) _ (is-typed (t .given .1)) (reads (def-type .ensures .ready) ((c .struct-or-error) .ensures _))))

@@ -26,27 +26,27 @@ new-holds t =
     (λ c κs. (omega (arith, (c .before .before .before .before .before .before .before .before .before .before .before .before .before .pre) .0), (c .before .before .before .before .before .before .before .only) .ensures .ready))  -- ast-type-requires
     (λ c. search needs)  -- enum-known-n-2
     (λ c. search needs)  -- enum-known-element
-    (λ c κs.
+    (λ c κs.  -- intern-pointer-requires
     let only = c .before .before .before .before .before .before .before .before .before .before .before .before .before .before .before .only in
     let ast-type = c .before .before .before .before .before .before .before .ast-type in
     let element = c .before .before .element in
-    (ast-type .ensures .ready .sound, type-below (only .ensures .ready) (ast-type .ensures) (element .given .1)))  -- intern-pointer-requires
+    (ast-type .ensures .ready .sound, type-below (only .ensures .ready) (ast-type .ensures) (element .given .1)))
     (λ c. search needs)  -- same-length
     (λ c. search needs)  -- same-length-2
     (λ c. then-stop ((c .before .before .before .before .before .before .only) .ensures) _ (not-ignored ((c .before .n) .given .1)) (is-refused refl))  -- returns
     (λ c. search needs)  -- same-length-3
     (λ c. search needs)  -- same-length-4
-    (λ c.
+    (λ c.  -- returns-2
     let only = c .before .before .before .before .before .before .before .before .before .before .before .before .before .before .only in
     let enum-told = c .before .before .before .before .before .before .before .before .before .enum-told in
     let ast-type = c .before .before .before .before .before .before .ast-type in
-    then-on (only .ensures) _ (is-ignored (enum-told .given .1)) (then-stop (ast-type .ensures) _ (is-refused ((c .before .n2) .given .1)) (is-refused refl)))  -- returns-2
+    then-on (only .ensures) _ (is-ignored (enum-told .given .1)) (then-stop (ast-type .ensures) _ (is-refused ((c .before .n2) .given .1)) (is-refused refl)))
     (λ c. search needs)  -- same-length-5
     (λ c. search needs)  -- same-length-6
-    (λ c.
+    (λ c.  -- returns-3
     let only = c .before .before .before .before .before .before .before .before .before .before .before .before .before .before .before .before .before .before .only in
     let enum-told = c .before .before .before .before .before .before .before .before .before .before .before .before .before .enum-told in
     let ast-type = c .before .before .before .before .before .before .before .before .before .before .ast-type in
     let element = c .before .before .before .before .before .element in
     let intern-pointer = c .before .before .intern-pointer in
-    then-on (only .ensures) _ (is-ignored (enum-told .given .1)) (then-on (ast-type .ensures) _ (is-typed (element .given .1)) (interns-runs (ast-type .ensures .ready) (intern-pointer .ensures))))  -- returns-3
+    then-on (only .ensures) _ (is-ignored (enum-told .given .1)) (then-on (ast-type .ensures) _ (is-typed (element .given .1)) (interns-runs (ast-type .ensures .ready) (intern-pointer .ensures))))

@@ -79,32 +79,32 @@ node-holds t =
     (λ c κs. (omega (arith, (c .before .before .before .before .before .before .before .before .before .before .before .before .pre) .0), ((c .before .before .before .before .before .before .before .before .before .before .before .before .pre) .1 .0)))  -- expr-type-requires
     (λ c. search needs)  -- same-length
     (λ c. search needs)  -- same-length-2
-    (λ c.
+    (λ c.  -- returns
     let x = c .before .before .before .before .before .before .before .x in
     let lit = c .before .before .before .lit in
-    by-node _ _ _ _ (x .given .1) (same-runs (literal-shaped _ _ _ _) (lit .ensures)))  -- returns
+    by-node _ _ _ _ (x .given .1) (same-runs (literal-shaped _ _ _ _) (lit .ensures)))
     (λ c. by-node _ _ _ _ ((c .enum-told) .given .1) (answers ((c .before .before .before .before .before .before .pre) .1 .0) refl))  -- returns-2
-    (λ c.
+    (λ c.  -- returns-3
     let pre = c .before .before .before .before .before .before .before .before .before .pre in
     let x2 = c .before .before .before .x2 in
-    by-node _ _ _ _ (x2 .given .1) (same-runs (identifier-shaped _ _ _ _) (if-true _ _ _ ((c .before .is-builtin-function-name) .ensures) ((c .if1) .taken) (answers (pre .1 .0) refl))))  -- returns-3
-    (λ c.
+    by-node _ _ _ _ (x2 .given .1) (same-runs (identifier-shaped _ _ _ _) (if-true _ _ _ ((c .before .is-builtin-function-name) .ensures) ((c .if1) .taken) (answers (pre .1 .0) refl))))
+    (λ c.  -- returns-4
     let pre = c .before .before .before .before .before .before .before .before .before .before .before .before .pre in
     let x2 = c .before .before .before .before .before .before .x2 in
     let is-builtin-function-name = c .before .before .before .before .is-builtin-function-name in
     let if1 = c .before .before .before .if1 in
     let identifier-definition = c .before .before .identifier-definition in
-    by-node _ _ _ _ (x2 .given .1) (same-runs (identifier-shaped _ _ _ _) (if-false _ _ _ (is-builtin-function-name .ensures) (if1 .left) (none-runs _ _ _ (sym (identifier-definition .ensures .same) ∙ ap definition-link-of ((c .enum-told2) .given .1)) (answers (pre .1 .0) refl)))))  -- returns-4
+    by-node _ _ _ _ (x2 .given .1) (same-runs (identifier-shaped _ _ _ _) (if-false _ _ _ (is-builtin-function-name .ensures) (if1 .left) (none-runs _ _ _ (sym (identifier-definition .ensures .same) ∙ ap definition-link-of ((c .enum-told2) .given .1)) (answers (pre .1 .0) refl)))))
     (λ c. search needs)  -- same-length-3
     (λ c. search needs)  -- same-length-4
-    (λ c.
+    (λ c.  -- returns-5
     let x2 = c .before .before .before .before .before .before .before .before .before .before .before .before .before .x2 in
     let is-builtin-function-name = c .before .before .before .before .before .before .before .before .before .before .before .is-builtin-function-name in
     let if1 = c .before .before .before .before .before .before .before .before .before .before .if1 in
     let identifier-definition = c .before .before .before .before .before .before .before .before .before .identifier-definition in
     let d = c .before .before .before .before .before .before .before .d in
     let def-type = c .before .before .before .def-type in
-    by-node _ _ _ _ (x2 .given .1) (same-runs (identifier-shaped _ _ _ _) (if-false _ _ _ (is-builtin-function-name .ensures) (if1 .left) (some-runs _ _ _ (sym (identifier-definition .ensures .same) ∙ ap definition-link-of (d .given .1)) (def-type .ensures)))))  -- returns-5
+    by-node _ _ _ _ (x2 .given .1) (same-runs (identifier-shaped _ _ _ _) (if-false _ _ _ (is-builtin-function-name .ensures) (if1 .left) (some-runs _ _ _ (sym (identifier-definition .ensures .same) ∙ ap definition-link-of (d .given .1)) (def-type .ensures)))))
     (λ c. search needs)  -- same-length-5
     (λ c. search needs)  -- same-length-6
     (λ c. by-node _ _ _ _ ((c .before .before .before .before .before .before .before .x3) .given .1) ((c .before .before .before .un) .ensures))  -- returns-6
@@ -122,11 +122,11 @@ node-holds t =
     (λ c. by-node _ _ _ _ ((c .before .before .before .before .before .before .before .x7) .given .1) ((c .before .before .before .index) .ensures))  -- returns-10
     (λ c. search needs)  -- same-length-15
     (λ c. search needs)  -- same-length-16
-    (λ c.
+    (λ c.  -- returns-11
     let x8 = c .before .before .before .before .before .before .before .before .x8 in
     let resolve-name-at-position = c .before .before .before .before .before .before .resolve-name-at-position in
     let named = c .before .before .before .named in
-    by-node _ _ _ _ (x8 .given .1) (same-runs (literal-named _ _ _ _ _ _) (led-to _ (resolve-name-at-position .result) _ (resolve-name-at-position .ensures) (named .ensures))))  -- returns-11
+    by-node _ _ _ _ (x8 .given .1) (same-runs (literal-named _ _ _ _ _ _) (led-to _ (resolve-name-at-position .result) _ (resolve-name-at-position .ensures) (named .ensures))))
     (λ c. search needs)  -- same-length-17
     (λ c. search needs)  -- same-length-18
     (λ c. by-node _ _ _ _ ((c .before .before .before .before .before .before .before .x9) .given .1) ((c .before .before .before .tuple) .ensures))  -- returns-12
@@ -135,10 +135,10 @@ node-holds t =
     (λ c. by-node _ _ _ _ ((c .before .before .before .before .before .before .before .x10) .given .1) ((c .before .before .before .tidx) .ensures))  -- returns-13
     (λ c. search needs)  -- same-length-21
     (λ c. search needs)  -- same-length-22
-    (λ c.
+    (λ c.  -- returns-14
     let x11 = c .before .before .before .before .before .before .before .x11 in
     let arr = c .before .before .before .arr in
-    by-node _ _ _ _ (x11 .given .1) (same-runs (array-shaped _ _ _ _) (arr .ensures)))  -- returns-14
+    by-node _ _ _ _ (x11 .given .1) (same-runs (array-shaped _ _ _ _) (arr .ensures)))
     (λ c. search needs)  -- same-length-23
     (λ c. search needs)  -- same-length-24
     (λ c. by-node _ _ _ _ ((c .before .before .before .before .before .before .before .x12) .given .1) ((c .before .before .before .rep) .ensures))  -- returns-15
@@ -148,14 +148,14 @@ node-holds t =
     (λ c. search needs)  -- same-length-27
     (λ c. search needs)  -- same-length-28
     (λ c. by-node _ _ _ _ ((c .before .before .before .before .before .before .before .x14) .given .1) ((c .before .before .before .new) .ensures))  -- returns-17
-    (λ c.
+    (λ c.  -- returns-18
     let pre = c .before .before .before .before .before .before .before .before .before .pre in
     let x15 = c .before .before .before .x15 in
-    by-node _ _ _ _ (x15 .given .1) (none-runs _ _ _ (ap expression-link-of ((c .enum-told3) .given .1)) (answers (pre .1 .0) refl)))  -- returns-18
+    by-node _ _ _ _ (x15 .given .1) (none-runs _ _ _ (ap expression-link-of ((c .enum-told3) .given .1)) (answers (pre .1 .0) refl)))
     (λ c. search needs)  -- same-length-29
     (λ c. search needs)  -- same-length-30
-    (λ c.
+    (λ c.  -- returns-19
     let x15 = c .before .before .before .before .before .before .before .before .before .before .x15 in
     let inner = c .before .before .before .before .before .before .before .inner in
     let expr-type = c .before .before .before .expr-type in
-    by-node _ _ _ _ (x15 .given .1) (some-runs _ _ _ (ap expression-link-of (inner .given .1)) (expr-type .ensures)))  -- returns-19
+    by-node _ _ _ _ (x15 .given .1) (some-runs _ _ _ (ap expression-link-of (inner .given .1)) (expr-type .ensures)))

@@ -25,7 +25,7 @@ only-holds t =
     (λ c. none-runs _ _ _ (ap expression-link-of ((c .enum-told) .given .1)) (ends ((c .before .before .before .before .before .pre) .1) (is-ignored refl)))  -- returns
     (λ c. search needs)  -- same-length
     (λ c. search needs)  -- same-length-2
-    (λ c.
+    (λ c.  -- returns-2
     let child = c .before .before .before .before .before .before .before .child in
     let expr-type = c .before .before .before .expr-type in
-    some-runs _ _ _ (ap expression-link-of (child .given .1)) (ignores (expr-type .ensures)))  -- returns-2
+    some-runs _ _ _ (ap expression-link-of (child .given .1)) (ignores (expr-type .ensures)))

@@ -31,10 +31,10 @@ origin-holds t =
     (origin-at t)
     origin.Post
     (λ c. search needs)  -- enum-known-context
-    (λ c.
+    (λ c.  -- returns
     let pre = c .before .before .before .before .before .before .pre in
     let args = c .before .before .before .before .before .before .args in
-    given-context (pre .1) _ _ _ (args .context) ((c .before .context) .given .1))  -- returns
+    given-context (pre .1) _ _ _ (args .context) ((c .before .context) .given .1))
     (λ c. search needs)  -- enum-told
     (λ c. search needs)  -- enum-told-2
     (λ c. search needs)  -- enum-known-from
@@ -60,80 +60,80 @@ origin-holds t =
     (λ c κs. (omega (arith, (c .before .before .before .before .before .before .before .before .before .before .before .before .before .before .pre) .0), ((c .before .before .before .before .before .before .before .before .before .before .before .before .before .before .pre) .1)))  -- fn-signature-requires-2
     (λ c κs. search needs)  -- returned-requires
     (λ c. search needs)  -- enum-told-7
-    (λ c.
+    (λ c.  -- returns-2
     let args = c .before .before .before .before .before .before .before .before .args in
     let pre = c .before .before .before .before .before .before .before .before .pre in
     let enum-told = c .before .before .before .enum-told in
-    from-origin _ _ (args .info) (args .context) _ (enum-told .given .1) ((c .enum-told2) .given .1) (knows-nothing (pre .1)))  -- returns-2
-    (λ c.
+    from-origin _ _ (args .info) (args .context) _ (enum-told .given .1) ((c .enum-told2) .given .1) (knows-nothing (pre .1)))
+    (λ c.  -- returns-3
     let args = c .before .before .before .before .before .before .before .before .before .before .before .before .args in
     let pre = c .before .before .before .before .before .before .before .before .before .before .before .before .pre in
     let enum-told = c .before .before .before .before .before .before .before .enum-told in
     let from = c .before .before .before .before .from in
     let field-type-expr = c .before .before .field-type-expr in
-    from-origin _ _ (args .info) (args .context) _ (enum-told .given .1) (from .given .1) (same-runs (field-shaped _ _ _ _) (none-runs _ _ _ (sym (field-type-expr .ensures .same) ∙ ap found-field-type-of ((c .enum-told3) .given .1)) (knows-nothing (pre .1)))))  -- returns-3
+    from-origin _ _ (args .info) (args .context) _ (enum-told .given .1) (from .given .1) (same-runs (field-shaped _ _ _ _) (none-runs _ _ _ (sym (field-type-expr .ensures .same) ∙ ap found-field-type-of ((c .enum-told3) .given .1)) (knows-nothing (pre .1)))))
     (λ c. search needs)  -- same-length
     (λ c. search needs)  -- same-length-2
-    (λ c.
+    (λ c.  -- returns-4
     let args = c .before .before .before .before .before .before .before .before .before .before .before .before .before .before .before .before .before .before .before .before .args in
     let enum-told = c .before .before .before .before .before .before .before .before .before .before .before .before .before .before .before .enum-told in
     let from = c .before .before .before .before .before .before .before .before .before .before .before .before .from in
     let field-type-expr = c .before .before .before .before .before .before .before .before .before .before .field-type-expr in
     let t = c .before .before .before .before .before .before .before .before .t in
     let ast-type = c .before .before .before .before .ast-type in
-    from-origin _ _ (args .info) (args .context) _ (enum-told .given .1) (from .given .1) (same-runs (field-shaped _ _ _ _) (some-runs _ _ _ (sym (field-type-expr .ensures .same) ∙ ap found-field-type-of (t .given .1)) (known-runs (ast-type .ensures) ((c .known) .ensures)))))  -- returns-4
-    (λ c.
+    from-origin _ _ (args .info) (args .context) _ (enum-told .given .1) (from .given .1) (same-runs (field-shaped _ _ _ _) (some-runs _ _ _ (sym (field-type-expr .ensures .same) ∙ ap found-field-type-of (t .given .1)) (known-runs (ast-type .ensures) ((c .known) .ensures)))))
+    (λ c.  -- returns-5
     let args = c .before .before .before .before .before .before .before .before .before .before .before .before .args in
     let pre = c .before .before .before .before .before .before .before .before .before .before .before .before .pre in
     let enum-told = c .before .before .before .before .before .before .before .enum-told in
     let from2 = c .before .before .before .before .from2 in
     let argument-definition = c .before .before .argument-definition in
-    from-origin _ _ (args .info) (args .context) _ (enum-told .given .1) (from2 .given .1) (same-runs (argument-shaped _ _ _ _) (none-runs _ _ _ (sym (argument-definition .ensures .same _) ∙ ap definition-link-of ((c .enum-told4) .given .1)) (knows-nothing (pre .1)))))  -- returns-5
+    from-origin _ _ (args .info) (args .context) _ (enum-told .given .1) (from2 .given .1) (same-runs (argument-shaped _ _ _ _) (none-runs _ _ _ (sym (argument-definition .ensures .same _) ∙ ap definition-link-of ((c .enum-told4) .given .1)) (knows-nothing (pre .1)))))
     (λ c. search needs)  -- same-length-3
     (λ c. search needs)  -- same-length-4
-    (λ c.
+    (λ c.  -- returns-6
     let args = c .before .before .before .before .before .before .before .before .before .before .before .before .before .before .before .before .before .before .before .before .before .args in
     let enum-told = c .before .before .before .before .before .before .before .before .before .before .before .before .before .before .before .before .enum-told in
     let from2 = c .before .before .before .before .before .before .before .before .before .before .before .before .before .from2 in
     let argument-definition = c .before .before .before .before .before .before .before .before .before .before .before .argument-definition in
     let d = c .before .before .before .before .before .before .before .before .before .d in
     let fn-signature = c .before .before .before .before .before .fn-signature in
-    from-origin _ _ (args .info) (args .context) _ (enum-told .given .1) (from2 .given .1) (same-runs (argument-shaped _ _ _ _) (some-runs _ _ _ (sym (argument-definition .ensures .same _) ∙ ap definition-link-of (d .given .1)) (passed-runs (fn-signature .ensures) ((c .passed) .ensures)))))  -- returns-6
+    from-origin _ _ (args .info) (args .context) _ (enum-told .given .1) (from2 .given .1) (same-runs (argument-shaped _ _ _ _) (some-runs _ _ _ (sym (argument-definition .ensures .same _) ∙ ap definition-link-of (d .given .1)) (passed-runs (fn-signature .ensures) ((c .passed) .ensures)))))
     (λ c. search needs)  -- same-length-5
     (λ c. search needs)  -- same-length-6
-    (λ c.
+    (λ c.  -- returns-7
     let args = c .before .before .before .before .before .before .before .before .before .before .before .before .before .before .before .before .before .before .args in
     let enum-told = c .before .before .before .before .before .before .before .before .before .before .before .before .before .enum-told in
     let from3 = c .before .before .before .before .before .before .before .before .before .before .from3 in
     let is-unsuffixed-literal = c .before .before .before .before .before .before .before .before .is-unsuffixed-literal in
     let if1 = c .before .before .before .before .before .before .before .if1 in
     let expr-type = c .before .before .before .before .expr-type in
-    from-origin _ _ (args .info) (args .context) _ (enum-told .given .1) (from3 .given .1) (if-true _ _ _ (is-unsuffixed-literal .ensures .same _ _) (if1 .taken) (known-runs (expr-type .ensures) ((c .known2) .ensures))))  -- returns-7
-    (λ c.
+    from-origin _ _ (args .info) (args .context) _ (enum-told .given .1) (from3 .given .1) (if-true _ _ _ (is-unsuffixed-literal .ensures .same _ _) (if1 .taken) (known-runs (expr-type .ensures) ((c .known2) .ensures))))
+    (λ c.  -- returns-8
     let args = c .before .before .before .before .before .before .before .before .before .before .before .args in
     let pre = c .before .before .before .before .before .before .before .before .before .before .before .pre in
     let enum-told = c .before .before .before .before .before .before .enum-told in
     let from3 = c .before .before .before .from3 in
-    from-origin _ _ (args .info) (args .context) _ (enum-told .given .1) (from3 .given .1) (if-false _ _ _ ((c .before .is-unsuffixed-literal) .ensures .same _ _) ((c .if1) .left) (knows-nothing (pre .1))))  -- returns-8
-    (λ c.
+    from-origin _ _ (args .info) (args .context) _ (enum-told .given .1) (from3 .given .1) (if-false _ _ _ ((c .before .is-unsuffixed-literal) .ensures .same _ _) ((c .if1) .left) (knows-nothing (pre .1))))
+    (λ c.  -- returns-9
     let args = c .before .before .before .before .before .before .before .before .before .before .before .args in
     let pre = c .before .before .before .before .before .before .before .before .before .before .before .pre in
     let enum-told = c .before .before .before .before .before .before .enum-told in
     let enum-told5 = c .before .before .before .enum-told5 in
     let first-function-around = c .before .before .first-function-around in
-    from-origin _ _ (args .info) (args .context) _ (enum-told .given .1) (enum-told5 .given .1) (none-runs _ _ _ (sym (first-function-around .ensures _) ∙ ap definition-link-of ((c .enum-told6) .given .1)) (knows-nothing (pre .1))))  -- returns-9
+    from-origin _ _ (args .info) (args .context) _ (enum-told .given .1) (enum-told5 .given .1) (none-runs _ _ _ (sym (first-function-around .ensures _) ∙ ap definition-link-of ((c .enum-told6) .given .1)) (knows-nothing (pre .1))))
     (λ c. search needs)  -- same-length-7
     (λ c. search needs)  -- same-length-8
-    (λ c.
+    (λ c.  -- returns-10
     let args = c .before .before .before .before .before .before .before .before .before .before .before .before .before .before .before .before .before .before .before .before .args in
     let enum-told = c .before .before .before .before .before .before .before .before .before .before .before .before .before .before .before .enum-told in
     let enum-told5 = c .before .before .before .before .before .before .before .before .before .before .before .before .enum-told5 in
     let first-function-around = c .before .before .before .before .before .before .before .before .before .before .before .first-function-around in
     let d2 = c .before .before .before .before .before .before .before .before .before .d2 in
     let fn-signature2 = c .before .before .before .before .before .fn-signature2 in
-    from-origin _ _ (args .info) (args .context) _ (enum-told .given .1) (enum-told5 .given .1) (some-runs _ _ _ (sym (first-function-around .ensures _) ∙ ap definition-link-of (d2 .given .1)) (returned-runs (fn-signature2 .ensures) ((c .returned) .ensures))))  -- returns-10
-    (λ c.
+    from-origin _ _ (args .info) (args .context) _ (enum-told .given .1) (enum-told5 .given .1) (some-runs _ _ _ (sym (first-function-around .ensures _) ∙ ap definition-link-of (d2 .given .1)) (returned-runs (fn-signature2 .ensures) ((c .returned) .ensures))))
+    (λ c.  -- returns-11
     let args = c .before .before .before .before .before .before .before .before .args in
     let pre = c .before .before .before .before .before .before .before .before .pre in
     let enum-told = c .before .before .before .enum-told in
-    from-origin _ _ (args .info) (args .context) _ (enum-told .given .1) ((c .enum-told7) .given .1) (knows (pre .1) refl))  -- returns-11
+    from-origin _ _ (args .info) (args .context) _ (enum-told .given .1) ((c .enum-told7) .given .1) (knows (pre .1) refl))

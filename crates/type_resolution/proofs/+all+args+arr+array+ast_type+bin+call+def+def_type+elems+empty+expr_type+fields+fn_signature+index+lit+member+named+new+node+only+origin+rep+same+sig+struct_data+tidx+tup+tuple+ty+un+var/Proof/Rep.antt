@@ -28,30 +28,30 @@ rep-holds t =
     (λ c κs. (omega (arith, (c .before .before .before .before .before .before .before .before .before .before .pre) .0), ((c .before .before .before .before .before .before .before .before .before .before .pre) .1)))  -- expr-type-requires
     (λ c. search needs)  -- enum-known-n
     (λ c. search needs)  -- enum-known-t
-    (λ c κs.
+    (λ c κs.  -- intern-array-requires
     let pre = c .before .before .before .before .before .before .before .before .before .before .before .before .before .before .before .before .before .before .pre in
     let element-hint = c .before .before .before .before .before .before .before .before .before .before .before .before .before .element-hint in
     let expr-type = c .before .before .before .before .before .before .before .expr-type in
     let t = c .before .before .t in
-    (expr-type .ensures .ready .sound, expression-below (pre .1) (hinted (pre .1) _ _ (element-hint .ensures _)) (expr-type .ensures) (t .given .1)))  -- intern-array-requires
+    (expr-type .ensures .ready .sound, expression-below (pre .1) (hinted (pre .1) _ _ (element-hint .ensures _)) (expr-type .ensures) (t .given .1)))
     (λ c. search needs)  -- same-length
-    (λ c.
+    (λ c.  -- returns
     let pre = c .before .before .before .before .before .before .before .pre in
     let element-hint = c .before .before .element-hint in
-    repeated _ _ _ _ (element-hint .ensures _) (none-runs _ _ _ (ap expression-link-of ((c .enum-told) .given .1)) (refuses (pre .1) 6)))  -- returns
+    repeated _ _ _ _ (element-hint .ensures _) (none-runs _ _ _ (ap expression-link-of ((c .enum-told) .given .1)) (refuses (pre .1) 6)))
     (λ c. search needs)  -- same-length-2
     (λ c. search needs)  -- same-length-3
-    (λ c.
+    (λ c.  -- returns-2
     let element-hint = c .before .before .before .before .before .before .before .before .before .before .before .before .element-hint in
     let element = c .before .before .before .before .before .before .before .before .before .before .element in
     let expr-type = c .before .before .before .before .before .before .expr-type in
-    repeated _ _ _ _ (element-hint .ensures _) (some-runs _ _ _ (ap expression-link-of (element .given .1)) (then-stop (expr-type .ensures) _ (is-refused ((c .before .n) .given .1)) (is-refused refl))))  -- returns-2
+    repeated _ _ _ _ (element-hint .ensures _) (some-runs _ _ _ (ap expression-link-of (element .given .1)) (then-stop (expr-type .ensures) _ (is-refused ((c .before .n) .given .1)) (is-refused refl))))
     (λ c. search needs)  -- same-length-4
     (λ c. search needs)  -- same-length-5
-    (λ c.
+    (λ c.  -- returns-3
     let element-hint = c .before .before .before .before .before .before .before .before .before .before .before .before .before .before .before .before .element-hint in
     let element = c .before .before .before .before .before .before .before .before .before .before .before .before .before .before .element in
     let expr-type = c .before .before .before .before .before .before .before .before .before .before .expr-type in
     let t = c .before .before .before .before .before .t in
     let intern-array = c .before .before .intern-array in
-    repeated _ _ _ _ (element-hint .ensures _) (some-runs _ _ _ (ap expression-link-of (element .given .1)) (then-on (expr-type .ensures) _ (is-typed (t .given .1)) (interns-runs (expr-type .ensures .ready) (intern-array .ensures)))))  -- returns-3
+    repeated _ _ _ _ (element-hint .ensures _) (some-runs _ _ _ (ap expression-link-of (element .given .1)) (then-on (expr-type .ensures) _ (is-typed (t .given .1)) (interns-runs (expr-type .ensures .ready) (intern-array .ensures)))))

@@ -34,47 +34,47 @@ same-holds t =
     same.Post
     Inv-loop
     μ-loop
-    (λ c.
+    (λ c.  -- loop-holds
     let pre = c .before .before .before .pre in
-    (pre .1 .1, (refl, (refl, leads-from _ (ap (all-same-type _ _) (links-behind-first _ _ _ (pre .1 .1))) (pre .1 .0)))))  -- loop-holds
+    (pre .1 .1, (refl, (refl, leads-from _ (ap (all-same-type _ _) (links-behind-first _ _ _ (pre .1 .1))) (pre .1 .0)))))
     (λ c κs. search needs)  -- item-link-requires
     (λ c. search needs)  -- enum-known-element
     (λ c. search needs)  -- enum-told
     (λ c. (c .before .before .before .before .loop) .inv .1 .0)  -- same-length
     (λ c. (c .before .before .before .before .loop) .inv .1 .1 .0)  -- same-length-2
-    (λ c.
+    (λ c.  -- returns
     let loop = c .before .before .before .before .loop in
     let loop-test = c .before .before .before .loop-test in
     let item-link = c .before .before .item-link in
-    same-absent _ _ _ _ _ (loop .inv .1 .1 .1) _ (loop-test .taken) (item-link .ensures) ((c .enum-told) .given .1))  -- returns
+    same-absent _ _ _ _ _ (loop .inv .1 .1 .1) _ (loop-test .taken) (item-link .ensures) ((c .enum-told) .given .1))
     (λ c κs. (omega (arith, (c .before .before .before .before .before .before .before .before .before .before .before .pre) .0), ((c .before .before .before .before .before .before .before .loop) .inv .1 .1 .1) .ready))  -- expr-type-requires
     (λ c. search needs)  -- enum-known-n
     (λ c. omega (arith, (c .before .before .before .before .before .types) .given, (c .before .before .before .before .before .before .before .before .before .before .before .before .before .before .loop) .inv .1 .0))  -- same-length-3
     (λ c. omega (arith, (c .before .before .before .demands) .given, (c .before .before .before .before .before .before .before .before .before .before .before .before .before .before .loop) .inv .1 .1 .0))  -- same-length-4
-    (λ c.
+    (λ c.  -- returns-2
     let loop = c .before .before .before .before .before .before .before .before .before .before .before .before .before .before .loop in
     let loop-test = c .before .before .before .before .before .before .before .before .before .before .before .before .before .loop-test in
     let item-link = c .before .before .before .before .before .before .before .before .before .before .before .before .item-link in
     let element = c .before .before .before .before .before .before .before .before .before .before .element in
     let expr-type = c .before .before .before .before .before .before .expr-type in
-    same-stops _ _ _ _ _ (loop .inv .1 .1 .1) _ (loop-test .taken) (item-link .ensures) (element .given .1) (expr-type .ensures) ((c .before .n) .given .1))  -- returns-2
+    same-stops _ _ _ _ _ (loop .inv .1 .1 .1) _ (loop-test .taken) (item-link .ensures) (element .given .1) (expr-type .ensures) ((c .before .n) .given .1))
     (λ c. search needs)  -- enum-known-x
-    (λ c κs.
+    (λ c κs.  -- are-types-compatible-requires
     let expr-type = c .before .before .before .before .before .before .before .expr-type in
-    (expr-type .ensures .ready .sound, expr-type .ensures .ready .ok))  -- are-types-compatible-requires
+    (expr-type .ensures .ready .sound, expr-type .ensures .ready .ok))
     (λ c. omega (arith, (c .before .before .before .before .before .before .before .before .types) .given, (c .before .before .before .before .before .before .before .before .before .before .before .before .before .before .before .before .before .loop) .inv .1 .0))  -- same-length-5
     (λ c. omega (arith, (c .before .before .before .before .before .before .demands) .given, (c .before .before .before .before .before .before .before .before .before .before .before .before .before .before .before .before .before .loop) .inv .1 .1 .0))  -- same-length-6
-    (λ c.
+    (λ c.  -- returns-3
     let loop = c .before .before .before .before .before .before .before .before .before .before .before .before .before .before .before .before .before .loop in
     let loop-test = c .before .before .before .before .before .before .before .before .before .before .before .before .before .before .before .before .loop-test in
     let item-link = c .before .before .before .before .before .before .before .before .before .before .before .before .before .before .before .item-link in
     let element = c .before .before .before .before .before .before .before .before .before .before .before .before .before .element in
     let expr-type = c .before .before .before .before .before .before .before .before .before .expr-type in
     let x = c .before .before .before .before .x in
-    same-differs _ _ _ _ _ (loop .inv .1 .1 .1) _ (loop-test .taken) (item-link .ensures) (element .given .1) (expr-type .ensures) (x .given .1) (sym ((c .before .are-types-compatible) .ensures) ∙ not-true _ ((c .if1) .taken)))  -- returns-3
+    same-differs _ _ _ _ _ (loop .inv .1 .1 .1) _ (loop-test .taken) (item-link .ensures) (element .given .1) (expr-type .ensures) (x .given .1) (sym ((c .before .are-types-compatible) .ensures) ∙ not-true _ ((c .if1) .taken)))
     (λ c. let good = (c .before .before .before .before .before .before .before .before .before .before .before .before .before .before .before .before .before .before .before .before .before .good) in omega (arith, (c .before .before .before .before .before .before .before .before .before .before .before .before .before .before .before .before .loop-test) .taken))  -- add-i
     (λ c. omega (arith, (c .before .before .before .before .before .before .before .before .before .before .before .before .before .before .before .before .loop-test) .taken))  -- loop-less
-    (λ c.
+    (λ c.  -- loop-again
     let loop = c .before .before .before .before .before .before .before .before .before .before .before .before .before .before .before .before .before .loop in
     let loop-test = c .before .before .before .before .before .before .before .before .before .before .before .before .before .before .before .before .loop-test in
     let item-link = c .before .before .before .before .before .before .before .before .before .before .before .before .before .before .before .item-link in
@@ -83,7 +83,7 @@ same-holds t =
     let types = c .before .before .before .before .before .before .before .before .types in
     let demands = c .before .before .before .before .before .before .demands in
     let x = c .before .before .before .before .x in
-    (omega (arith, loop-test .taken), (omega (arith, types .given, loop .inv .1 .0), (omega (arith, demands .given, loop .inv .1 .1 .0), same-more _ _ _ _ _ (loop .inv .1 .1 .1) _ (loop-test .taken) (item-link .ensures) (element .given .1) (expr-type .ensures) (x .given .1) (sym ((c .before .are-types-compatible) .ensures) ∙ not-false _ ((c .if1) .left))))))  -- loop-again
+    (omega (arith, loop-test .taken), (omega (arith, types .given, loop .inv .1 .0), (omega (arith, demands .given, loop .inv .1 .1 .0), same-more _ _ _ _ _ (loop .inv .1 .1 .1) _ (loop-test .taken) (item-link .ensures) (element .given .1) (expr-type .ensures) (x .given .1) (sym ((c .before .are-types-compatible) .ensures) ∙ not-false _ ((c .if1) .left))))))
     (λ c. (c .before .loop) .inv .1 .0)  -- same-length-7
     (λ c. (c .before .loop) .inv .1 .1 .0)  -- same-length-8
     (λ c. same-all _ _ _ _ _ ((c .before .loop) .inv .1 .1 .1) ((c .loop-test) .left))  -- returns-4

@@ -30,7 +30,7 @@ struct-data-holds t =
     (λ c κs. search needs)  -- struct-fields-requires
     (λ c. search needs)  -- enum-told-2
     (λ c. search needs)  -- enum-known-list
-    (λ c κs.
+    (λ c κs.  -- fields-requires
     let pre = c .before .before .before .before .before .before .before .before .before .before .before .before .before .before .before .before .before .before .before .before .pre in
     let enter-struct = c .before .before .before .before .before .before .before .before .before .before .before .before .before .before .before .enter-struct in
     let next = c .before .before .before .before .before .before .before .before .before .before .before .before .next in
@@ -38,31 +38,31 @@ struct-data-holds t =
     let x = c .before .before .before .before .before .before .before .before .x in
     let struct-fields = c .before .before .before .before .before .struct-fields in
     let list = c .before .before .before .list in
-    (enter-falls 2 (omega arith) (enter-struct .ensures) (next .given .1) (sym (pre .0)), ((entered-ready (pre .1) (enter-struct .ensures) (next .given .1)), short-fields (pre .1) (definition-in .ensures) (x .given .1) (struct-fields .ensures) (list .given .1))))  -- fields-requires
+    (enter-falls 2 (omega arith) (enter-struct .ensures) (next .given .1) (sym (pre .0)), ((entered-ready (pre .1) (enter-struct .ensures) (next .given .1)), short-fields (pre .1) (definition-in .ensures) (x .given .1) (struct-fields .ensures) (list .given .1))))
     (λ c. search needs)  -- same-length
-    (λ c.
+    (λ c.  -- returns
     let pre = c .before .before .before .before .before .before .before .before .before .pre in
     let enter-struct = c .before .before .before .before .enter-struct in
-    entered-stops (pre .1) (enter-struct .ensures) ((c .before .n) .given .1) (not-linked refl))  -- returns
+    entered-stops (pre .1) (enter-struct .ensures) ((c .before .n) .given .1) (not-linked refl))
     (λ c. search needs)  -- same-length-2
-    (λ c.
+    (λ c.  -- returns-2
     let pre = c .before .before .before .before .before .before .before .before .before .before .before .before .pre in
     let enter-struct = c .before .before .before .before .before .before .before .enter-struct in
     let next = c .before .before .before .before .next in
     let definition-in = c .before .before .definition-in in
-    entered-runs (pre .1) (enter-struct .ensures) (next .given .1) (struct-absent (entered-ready (pre .1) (enter-struct .ensures) (next .given .1)) _ _ (definition-in .ensures) ((c .enum-told) .given .1)))  -- returns-2
+    entered-runs (pre .1) (enter-struct .ensures) (next .given .1) (struct-absent (entered-ready (pre .1) (enter-struct .ensures) (next .given .1)) _ _ (definition-in .ensures) ((c .enum-told) .given .1)))
     (λ c. search needs)  -- same-length-3
-    (λ c.
+    (λ c.  -- returns-3
     let pre = c .before .before .before .before .before .before .before .before .before .before .before .before .before .before .before .before .before .pre in
     let enter-struct = c .before .before .before .before .before .before .before .before .before .before .before .before .enter-struct in
     let next = c .before .before .before .before .before .before .before .before .before .next in
     let definition-in = c .before .before .before .before .before .before .before .definition-in in
     let x = c .before .before .before .before .before .x in
     let struct-fields = c .before .before .struct-fields in
-    entered-runs (pre .1) (enter-struct .ensures) (next .given .1) (struct-found _ _ (definition-in .ensures) (x .given .1) (no-struct (entered-ready (pre .1) (enter-struct .ensures) (next .given .1)) _ _ _ _ (struct-fields .ensures) ((c .enum-told2) .given .1))))  -- returns-3
+    entered-runs (pre .1) (enter-struct .ensures) (next .given .1) (struct-found _ _ (definition-in .ensures) (x .given .1) (no-struct (entered-ready (pre .1) (enter-struct .ensures) (next .given .1)) _ _ _ _ (struct-fields .ensures) ((c .enum-told2) .given .1))))
     (λ c. search needs)  -- same-length-4
     (λ c. search needs)  -- same-length-5
-    (λ c.
+    (λ c.  -- returns-4
     let pre = c .before .before .before .before .before .before .before .before .before .before .before .before .before .before .before .before .before .before .before .before .before .before .before .before .pre in
     let enter-struct = c .before .before .before .before .before .before .before .before .before .before .before .before .before .before .before .before .before .before .before .enter-struct in
     let next = c .before .before .before .before .before .before .before .before .before .before .before .before .before .before .before .before .next in
@@ -71,4 +71,4 @@ struct-data-holds t =
     let struct-fields = c .before .before .before .before .before .before .before .before .before .struct-fields in
     let list = c .before .before .before .before .before .before .before .list in
     let fields = c .before .before .before .fields in
-    entered-runs (pre .1) (enter-struct .ensures) (next .given .1) (struct-found _ _ (definition-in .ensures) (x .given .1) (struct-fielded _ _ _ _ _ (struct-fields .ensures) (list .given .1) (fields .ensures))))  -- returns-4
+    entered-runs (pre .1) (enter-struct .ensures) (next .given .1) (struct-found _ _ (definition-in .ensures) (x .given .1) (struct-fielded _ _ _ _ _ (struct-fields .ensures) (list .given .1) (fields .ensures))))

@@ -24,19 +24,19 @@ tidx-holds t =
     (λ c. search needs)  -- enum-known-n
     (λ c. search needs)  -- enum-known-t
     (λ c κs. search needs)  -- tuple-element-requires
-    (λ c.
+    (λ c.  -- returns
     let pre = c .before .before .before .before .before .pre in
-    same-runs (tuple-index-reads _ _ _) (none-runs _ _ _ (ap expression-link-of ((c .enum-told) .given .1)) (refuses (pre .1) 6)))  -- returns
+    same-runs (tuple-index-reads _ _ _) (none-runs _ _ _ (ap expression-link-of ((c .enum-told) .given .1)) (refuses (pre .1) 6)))
     (λ c. search needs)  -- same-length
     (λ c. search needs)  -- same-length-2
-    (λ c.
+    (λ c.  -- returns-2
     let e = c .before .before .before .before .before .before .before .before .before .before .e in
     let expr-type = c .before .before .before .before .before .before .expr-type in
-    same-runs (tuple-index-reads _ _ _) (some-runs _ _ _ (ap expression-link-of (e .given .1)) (then-stop (expr-type .ensures) _ (is-refused ((c .before .n) .given .1)) (is-refused refl))))  -- returns-2
+    same-runs (tuple-index-reads _ _ _) (some-runs _ _ _ (ap expression-link-of (e .given .1)) (then-stop (expr-type .ensures) _ (is-refused ((c .before .n) .given .1)) (is-refused refl))))
     (λ c. search needs)  -- same-length-3
     (λ c. search needs)  -- same-length-4
-    (λ c.
+    (λ c.  -- returns-3
     let e = c .before .before .before .before .before .before .before .before .before .before .before .before .e in
     let expr-type = c .before .before .before .before .before .before .before .before .expr-type in
     let t = c .before .before .before .t in
-    same-runs (tuple-index-reads _ _ _) (some-runs _ _ _ (ap expression-link-of (e .given .1)) (then-on (expr-type .ensures) _ (is-typed (t .given .1)) (reads (expr-type .ensures .ready) ((c .tuple-element) .ensures _)))))  -- returns-3
+    same-runs (tuple-index-reads _ _ _) (some-runs _ _ _ (ap expression-link-of (e .given .1)) (then-on (expr-type .ensures) _ (is-typed (t .given .1)) (reads (expr-type .ensures .ready) ((c .tuple-element) .ensures _)))))

@@ -26,18 +26,18 @@ tup-holds t =
     (λ c. search needs)  -- enum-known-n-2
     (λ c. let most = (c .before .before .before .before .before .before .before .before .all) .ensures .1 .number _ ((c .before .before .n2) .given .1) in omega (arith, most, (c .before .before .before .before .elements2) .given, (c .before .before .before .before .before .before .before .before .before .before .before .before .before .before .before .pre) .1 .1))  -- array-share-prefix-elements
     (λ c. let most = (c .before .before .before .before .before .before .before .before .before .all) .ensures .1 .number _ ((c .before .before .before .n2) .given .1) in taken-length ((c .before .before .before .n2) .given .0 .0) ((c .before .before .before .before .before .before .before .before .before .all) .last .1 .1 .1 .1 .1 .1 .1 .1 .0) (omega (arith, most, (c .before .before .before .before .before .elements2) .given, (c .before .before .before .before .before .before .before .before .before .before .before .before .before .before .before .before .pre) .1 .1)))  -- slice-aggregate-intern-tuple
-    (λ c κs.
+    (λ c κs.  -- intern-tuple-requires
     let pre = c .before .before .before .before .before .before .before .before .before .before .before .before .before .before .before .before .pre in
     let all = c .before .before .before .before .before .before .before .before .before .all in
     let n2 = c .before .before .before .n2 in
-    (all .ensures .0 .ready .sound, collected-below (pre .1 .0) _ _ _ _ (all .ensures .0) (n2 .given .1)))  -- intern-tuple-requires
+    (all .ensures .0 .ready .sound, collected-below (pre .1 .0) _ _ _ _ (all .ensures .0) (n2 .given .1)))
     (λ c. search needs)  -- same-length
     (λ c. search needs)  -- same-length-2
     (λ c. then-stop ((c .before .before .before .before .before .before .before .all) .ensures .0) _ (not-collected _ ((c .before .n) .given .1)) (is-refused refl))  -- returns
     (λ c. search needs)  -- same-length-3
     (λ c. search needs)  -- same-length-4
-    (λ c.
+    (λ c.  -- returns-2
     let all = c .before .before .before .before .before .before .before .before .before .before .before .before .all in
     let n2 = c .before .before .before .before .before .before .n2 in
     let intern-tuple = c .before .before .intern-tuple in
-    then-on (all .ensures .0) _ (is-collected _ (n2 .given .1)) (interns-runs (all .ensures .0 .ready) (intern-tuple .ensures)))  -- returns-2
+    then-on (all .ensures .0) _ (is-collected _ (n2 .given .1)) (interns-runs (all .ensures .0 .ready) (intern-tuple .ensures)))

@@ -32,21 +32,21 @@ tuple-holds t =
     (λ c. let good = (c .before .before .before .before .before .before .before .before .before .before .before .before .before .before .before .before .good) in omega arith)  -- cast-if1
     (λ c. let most = (c .before .before .before .before .before .before .before .before .before .elems) .ensures .1 .number _ ((c .before .before .before .n2) .given .1) in omega (arith, most, (c .before .before .before .before .before .elements2) .given, (c .before .before .before .before .before .before .before .before .before .before .before .before .before .before .before .before .before .before .pre) .1 .1))  -- array-share-prefix-elements
     (λ c. (let most = (c .before .before .before .before .before .before .before .before .before .before .elems) .ensures .1 .number _ ((c .before .before .before .before .n2) .given .1) in taken-length ((c .before .before .before .before .n2) .given .0 .0) ((c .before .before .before .before .before .before .before .before .before .before .elems) .last .1 .1 .1 .1 .1 .1 .1 .1 .0) (omega (arith, most, (c .before .before .before .before .before .before .elements2) .given, (c .before .before .before .before .before .before .before .before .before .before .before .before .before .before .before .before .before .before .before .pre) .1 .1))))  -- slice-aggregate-intern-tuple
-    (λ c κs.
+    (λ c κs.  -- intern-tuple-requires
     let pre = c .before .before .before .before .before .before .before .before .before .before .before .before .before .before .before .before .before .before .before .pre in
     let element-contexts = c .before .before .before .before .before .before .before .before .before .before .before .before .before .before .element-contexts in
     let elems = c .before .before .before .before .before .before .before .before .before .before .elems in
     let n2 = c .before .before .before .before .n2 in
-    (elems .ensures .0 .ready .sound, elements-below (pre .1 .0) _ _ _ _ _ (contexts-good (pre .1 .0) (element-contexts .ensures)) (elems .ensures .0) (n2 .given .1)))  -- intern-tuple-requires
+    (elems .ensures .0 .ready .sound, elements-below (pre .1 .0) _ _ _ _ _ (contexts-good (pre .1 .0) (element-contexts .ensures)) (elems .ensures .0) (n2 .given .1)))
     (λ c. search needs)  -- same-length
     (λ c. search needs)  -- same-length-2
-    (λ c.
+    (λ c.  -- returns
     let element-contexts = c .before .before .before .before .before .before .before .before .before .before .before .element-contexts in
     let elems = c .before .before .before .before .before .before .before .elems in
-    tuple-looked _ _ _ _ _ (element-contexts .ensures) (then-stop (elems .ensures .0) _ (not-collected _ ((c .before .n) .given .1)) (is-refused refl)))  -- returns
+    tuple-looked _ _ _ _ _ (element-contexts .ensures) (then-stop (elems .ensures .0) _ (not-collected _ ((c .before .n) .given .1)) (is-refused refl)))
     (λ c. search needs)  -- same-length-3
     (λ c. search needs)  -- same-length-4
-    (λ c.
+    (λ c.  -- returns-2
     let pre = c .before .before .before .before .before .before .before .before .before .before .before .before .before .before .before .before .before .before .before .before .before .before .pre in
     let element-contexts = c .before .before .before .before .before .before .before .before .before .before .before .before .before .before .before .before .before .element-contexts in
     let elems = c .before .before .before .before .before .before .before .before .before .before .before .before .before .elems in
@@ -54,13 +54,13 @@ tuple-holds t =
     let n2 = c .before .before .before .before .before .before .before .n2 in
     let if1 = c .before .before .before .before .before .if1 in
     let intern-tuple = c .before .before .intern-tuple in
-    tuple-looked _ _ _ _ _ (element-contexts .ensures) (then-on (elems .ensures .0) _ (is-collected _ (n2 .given .1)) (if-true _ _ _ (sym (eq-eqb _ _ (sym (let most = elems .ensures .1 .number _ (n2 .given .1) in taken-length (n2 .given .0 .0) (elems .last .1 .1 .1 .1 .1 .1 .1 .1 .0) (omega (arith, most, elements2 .given, pre .1 .1))) ∙ if1 .taken ∙ sym (links-length _ _ _)))) refl (interns-runs (elems .ensures .0 .ready) (intern-tuple .ensures)))))  -- returns-2
+    tuple-looked _ _ _ _ _ (element-contexts .ensures) (then-on (elems .ensures .0) _ (is-collected _ (n2 .given .1)) (if-true _ _ _ (sym (eq-eqb _ _ (sym (let most = elems .ensures .1 .number _ (n2 .given .1) in taken-length (n2 .given .0 .0) (elems .last .1 .1 .1 .1 .1 .1 .1 .1 .0) (omega (arith, most, elements2 .given, pre .1 .1))) ∙ if1 .taken ∙ sym (links-length _ _ _)))) refl (interns-runs (elems .ensures .0 .ready) (intern-tuple .ensures)))))
     (λ c. search needs)  -- same-length-5
     (λ c. search needs)  -- same-length-6
-    (λ c.
+    (λ c.  -- returns-3
     let pre = c .before .before .before .before .before .before .before .before .before .before .before .before .before .before .before .before .before .pre in
     let element-contexts = c .before .before .before .before .before .before .before .before .before .before .before .before .element-contexts in
     let elems = c .before .before .before .before .before .before .before .before .elems in
     let elements2 = c .before .before .before .before .elements2 in
     let n2 = c .before .before .n2 in
-    tuple-looked _ _ _ _ _ (element-contexts .ensures) (then-on (elems .ensures .0) _ (is-collected _ (n2 .given .1)) (if-false _ _ _ (sym (ne-eqb _ _ (λ e. (c .if1) .left ((let most = elems .ensures .1 .number _ (n2 .given .1) in taken-length (n2 .given .0 .0) (elems .last .1 .1 .1 .1 .1 .1 .1 .1 .0) (omega (arith, most, elements2 .given, pre .1 .1))) ∙ e ∙ links-length _ _ _)))) refl (answers (elems .ensures .0 .ready) refl))))  -- returns-3
+    tuple-looked _ _ _ _ _ (element-contexts .ensures) (then-on (elems .ensures .0) _ (is-collected _ (n2 .given .1)) (if-false _ _ _ (sym (ne-eqb _ _ (λ e. (c .if1) .left ((let most = elems .ensures .1 .number _ (n2 .given .1) in taken-length (n2 .given .0 .0) (elems .last .1 .1 .1 .1 .1 .1 .1 .1 .0) (omega (arith, most, elements2 .given, pre .1 .1))) ∙ e ∙ links-length _ _ _)))) refl (answers (elems .ensures .0 .ready) refl))))

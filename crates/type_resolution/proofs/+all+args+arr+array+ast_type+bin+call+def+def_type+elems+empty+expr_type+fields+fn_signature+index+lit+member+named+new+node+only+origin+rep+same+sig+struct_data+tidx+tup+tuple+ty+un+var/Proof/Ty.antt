@@ -36,11 +36,11 @@ ty-holds t =
     (λ c κs. (omega (arith, (c .before .before .before .before .before .before .before .before .pre) .0), ((c .before .before .before .before .before .before .before .before .pre) .1 .0)))  -- ast-type-requires
     (λ c. search needs)  -- enum-known-n
     (λ c. search needs)  -- enum-known-element
-    (λ c κs.
+    (λ c κs.  -- intern-pointer-requires
     let pre = c .before .before .before .before .before .before .before .before .before .before .before .before .before .before .before .before .pre in
     let ast-type = c .before .before .before .before .before .before .before .ast-type in
     let element = c .before .before .element in
-    (ast-type .ensures .ready .sound, type-below (pre .1 .0) (ast-type .ensures) (element .given .1)))  -- intern-pointer-requires
+    (ast-type .ensures .ready .sound, type-below (pre .1 .0) (ast-type .ensures) (element .given .1)))
     (λ c. search needs)  -- enum-known-x-3
     (λ c κs. (omega (arith, (c .before .before .before .before .before .before .before .before .pre) .0), ((c .before .before .before .before .before .before .before .before .pre) .1 .0, subst ShortType ((c .before .before .before .x3) .given .1) ((c .before .before .before .before .before .before .before .before .pre) .1 .1))))  -- tup-requires
     (λ c. search needs)  -- enum-known-x-4
@@ -50,25 +50,25 @@ ty-holds t =
     (λ c. by-type-expr _ _ _ ((c .enum-told3) .given .1) (answers ((c .before .before .before .before .before .pre) .1 .0) refl))  -- returns-3
     (λ c. search needs)  -- same-length
     (λ c. search needs)  -- same-length-2
-    (λ c.
+    (λ c.  -- returns-4
     let x = c .before .before .before .before .before .before .before .before .x in
     let latest-definition-index-by-name-in-chain = c .before .before .before .before .before .before .latest-definition-index-by-name-in-chain in
     let named = c .before .before .before .named in
-    by-type-expr _ _ _ (x .given .1) (same-runs (custom-named _ _ _ _) (led-to _ (latest-definition-index-by-name-in-chain .result) _ (latest-definition-index-by-name-in-chain .ensures) (named .ensures))))  -- returns-4
+    by-type-expr _ _ _ (x .given .1) (same-runs (custom-named _ _ _ _) (led-to _ (latest-definition-index-by-name-in-chain .result) _ (latest-definition-index-by-name-in-chain .ensures) (named .ensures))))
     (λ c. search needs)  -- same-length-3
     (λ c. search needs)  -- same-length-4
-    (λ c.
+    (λ c.  -- returns-5
     let x2 = c .before .before .before .before .before .before .before .before .before .before .x2 in
     let ast-type = c .before .before .before .before .before .before .ast-type in
-    by-type-expr _ _ _ (x2 .given .1) (then-stop (ast-type .ensures) _ (is-refused ((c .before .n) .given .1)) (is-refused refl)))  -- returns-5
+    by-type-expr _ _ _ (x2 .given .1) (then-stop (ast-type .ensures) _ (is-refused ((c .before .n) .given .1)) (is-refused refl)))
     (λ c. search needs)  -- same-length-5
     (λ c. search needs)  -- same-length-6
-    (λ c.
+    (λ c.  -- returns-6
     let x2 = c .before .before .before .before .before .before .before .before .before .before .before .before .before .before .x2 in
     let ast-type = c .before .before .before .before .before .before .before .before .before .before .ast-type in
     let element = c .before .before .before .before .before .element in
     let intern-pointer = c .before .before .intern-pointer in
-    by-type-expr _ _ _ (x2 .given .1) (then-on (ast-type .ensures) _ (is-typed (element .given .1)) (interns-runs (ast-type .ensures .ready) (intern-pointer .ensures))))  -- returns-6
+    by-type-expr _ _ _ (x2 .given .1) (then-on (ast-type .ensures) _ (is-typed (element .given .1)) (interns-runs (ast-type .ensures .ready) (intern-pointer .ensures))))
     (λ c. search needs)  -- same-length-7
     (λ c. search needs)  -- same-length-8
     (λ c. by-type-expr _ _ _ ((c .before .before .before .before .before .before .before .x3) .given .1) ((c .before .before .before .tup) .ensures))  -- returns-7

@@ -24,20 +24,20 @@ un-holds t =
     (λ c κs. (omega (arith, (c .before .before .before .before .before .before .before .before .pre) .0), ((c .before .before .before .before .before .before .before .before .pre) .1)))  -- expr-type-requires
     (λ c. search needs)  -- enum-known-n
     (λ c. search needs)  -- enum-known-t
-    (λ c κs.
+    (λ c κs.  -- unary-result-requires
     let expr-type = c .before .before .before .before .before .before .before .expr-type in
-    (expr-type .ensures .ready .sound, expr-type .ensures .ready .ok))  -- unary-result-requires
+    (expr-type .ensures .ready .sound, expr-type .ensures .ready .ok))
     (λ c. none-runs _ _ _ (ap expression-link-of ((c .enum-told) .given .1)) (refuses ((c .before .before .before .before .before .pre) .1) 6))  -- returns
     (λ c. search needs)  -- same-length
     (λ c. search needs)  -- same-length-2
-    (λ c.
+    (λ c.  -- returns-2
     let operand = c .before .before .before .before .before .before .before .before .before .before .operand in
     let expr-type = c .before .before .before .before .before .before .expr-type in
-    some-runs _ _ _ (ap expression-link-of (operand .given .1)) (then-stop (expr-type .ensures) _ (is-refused ((c .before .n) .given .1)) (is-refused refl)))  -- returns-2
+    some-runs _ _ _ (ap expression-link-of (operand .given .1)) (then-stop (expr-type .ensures) _ (is-refused ((c .before .n) .given .1)) (is-refused refl)))
     (λ c. search needs)  -- same-length-3
     (λ c. search needs)  -- same-length-4
-    (λ c.
+    (λ c.  -- returns-3
     let operand = c .before .before .before .before .before .before .before .before .before .before .before .before .operand in
     let expr-type = c .before .before .before .before .before .before .before .before .expr-type in
     let t = c .before .before .before .t in
-    some-runs _ _ _ (ap expression-link-of (operand .given .1)) (then-on (expr-type .ensures) _ (is-typed (t .given .1)) (look-runs _ (answers (expr-type .ensures .ready) ((c .unary-result) .ensures)))))  -- returns-3
+    some-runs _ _ _ (ap expression-link-of (operand .given .1)) (then-on (expr-type .ensures) _ (is-typed (t .given .1)) (look-runs _ (answers (expr-type .ensures .ready) ((c .unary-result) .ensures)))))

@@ -26,18 +26,18 @@ var-holds t =
     (λ c. search needs)  -- enum-told-2
     (λ c. search needs)  -- same-length
     (λ c. search needs)  -- same-length-2
-    (λ c.
+    (λ c.  -- returns
     let t = c .before .before .before .before .before .before .before .t in
     let ast-type = c .before .before .before .ast-type in
-    declared-as _ _ _ _ _ (ast-type .ensures) (ap type-link-of (t .given .1)))  -- returns
+    declared-as _ _ _ _ _ (ast-type .ensures) (ap type-link-of (t .given .1)))
     (λ c. search needs)  -- same-length-3
     (λ c. search needs)  -- same-length-4
-    (λ c.
+    (λ c.  -- returns-2
     let enum-told = c .before .before .before .before .before .before .before .before .before .enum-told in
     let e = c .before .before .before .before .before .before .before .e in
     let expr-type = c .before .before .before .expr-type in
-    valued-as _ _ _ _ _ (expr-type .ensures) (ap type-link-of (enum-told .given .1)) (ap expression-link-of (e .given .1)))  -- returns-2
-    (λ c.
+    valued-as _ _ _ _ _ (expr-type .ensures) (ap type-link-of (enum-told .given .1)) (ap expression-link-of (e .given .1)))
+    (λ c.  -- returns-3
     let pre = c .before .before .before .before .before .before .before .pre in
     let enum-told = c .before .before .enum-told in
-    neither-as _ _ _ _ _ (answers (pre .1) refl) (ap type-link-of (enum-told .given .1)) (ap expression-link-of ((c .enum-told2) .given .1)))  -- returns-3
+    neither-as _ _ _ _ _ (answers (pre .1) refl) (ap type-link-of (enum-told .given .1)) (ap expression-link-of ((c .enum-told2) .given .1)))
