@@ -14,7 +14,7 @@
  *
  * What the caller promises: each pointer is valid for its length (counted in elements, not in bytes),
  * aligned for its element, and not NULL unless the length is 0; no buffer that is written overlaps
- * another one; there is stack enough, ROOGNAPS_STACK_BYTES for a call that answers. How long an
+ * another one; a call that answers is made on a thread with ROOGNAPS_STACK_BYTES of stack. How long an
  * answer takes has no useful bound (docs/DIFFERENCES.md, 3).
  *
  * Refusals 1 to 10: docs/REFUSALS.md. From source to answers by example: docs/USING.md.
@@ -40,7 +40,7 @@ extern "C" {
 #define ROOGNAPS_QUESTIONS 256
 
 /*
- * The stack that a call that answers wants: the most that was found is 4.7 MB, and no bound is proved
+ * The stack of a thread on which a call answers: the most that was found is 4.7 MB, and no bound is proved
  * (docs/BENCHMARKS.md). Too little ends the process. A program's first thread usually has 8 MB; for
  * others see pthread_attr_setstacksize.
  */

@@ -19,9 +19,8 @@ import subprocess
 import sys
 
 ROOT = os.path.dirname(os.path.dirname(os.path.abspath(__file__)))
-# The documents whose examples the crate oracle_sample has, and those whose examples are only run.
+# The documents whose examples the crate oracle_sample has; those of the others are only run.
 DOCUMENTS = ["README.md", "docs/DECISIONS.md", "docs/DIFFERENCES.md"]
-ONLY_RUN = ["docs/FORMAT.md", "docs/REFUSALS.md"]
 BLOCK = re.compile(r"^( *)```index( rust-differs)?\n(.*?\n) *\n(.*?)^\1```$", re.M | re.S)
 
 
@@ -47,13 +46,29 @@ def ended(number, differing):
         sys.exit("\n".join(differing))
 
 
+def every_document():
+    return ["README.md"] + sorted("docs/" + name for name in os.listdir(os.path.join(ROOT, "docs")) if name.endswith(".md"))
+
+
+def opened(documents):
+    """How many examples begin in the documents."""
+    count = 0
+    for document in documents:
+        with open(os.path.join(ROOT, document), encoding="utf-8") as f:
+            count += len(re.findall(r"^ *```index", f.read(), re.M))
+    return count
+
+
 def run(program):
     number, differing = 0, []
-    for document, _, index, printed in examples(DOCUMENTS + ONLY_RUN):
+    for document, _, index, printed in examples(every_document()):
         number += 1
         said = said_by([program], index)
         if said != printed:
             differing.append("%s: for\n%sthe program prints\n%s" % (document, index.decode(), said.decode()))
+    begun = opened(every_document())
+    if number != begun or number == 0:
+        differing.append("%d examples begin in the documents" % begun)
     ended(number, differing)
 
 

@@ -24,6 +24,10 @@ MALFORMED_STEP = 10
 # A frame that is larger goes down page by page and touches each, so that too little stack meets the guard page.
 PAGE = 4096
 TOUCHED = re.compile(r"movq +\$0x0,\(%rsp\)$")
+# The stack lowered in another way, of which the length isn't seen.
+OTHERWISE = re.compile(r"\t(sub +%\w+,%rsp|lea +-0x[0-9a-f]+\(%rsp\),%rsp|add +\$0xf{4,}[0-9a-f]*,%rsp)")
+# What the tool says in a build without the originals.
+NOT_REACHABLE = "original Cairo-M sources"
 
 
 def say(line):
@@ -75,11 +79,13 @@ def large_frames(folder):
         return False
     pages = [(function, size, then) for function, size, then in steps_down(listing) if size >= PAGE]
     wrong = [f"{function} goes down {size} bytes, then {then}" for function, size, then in pages if size > PAGE or not TOUCHED.match(then)]
+    wrong += [line.strip() for line in listing.splitlines() if OTHERWISE.search(line)]
     for said in wrong:
         print(said)
     functions = len({function for function, _, _ in pages})
     say(f"{functions} functions have frames above {PAGE} bytes; {'not each' if wrong else 'each'} page is touched")
-    return not wrong
+    # The resolution functions have such frames: none found means that the listing wasn't understood.
+    return functions > 0 and not wrong
 
 
 def compiled(source, name, folder):
@@ -229,13 +235,23 @@ def example(name, *words):
 
 
 def originals_are_reachable():
-    """Whether the workspace is built with the original sources."""
-    return run(["cargo", "run", "--offline", "--quiet", "--", "self-check", "0", "0"], cwd=os.path.join(ROOT, "rust")).returncode == 0
+    """Whether the workspace is built with the original sources; none if that can't be told."""
+    asked = run(["cargo", "run", "--offline", "--quiet", "--", "self-check", "0", "0"], cwd=os.path.join(ROOT, "rust"))
+    if asked.returncode == 0:
+        return True
+    if NOT_REACHABLE in asked.stdout:
+        return False
+    print(asked.stdout)
+    return None
 
 
 def with_originals():
     """What the crate has with the feature `export`: documentation, and the example `types`."""
-    if not originals_are_reachable():
+    reachable = originals_are_reachable()
+    if reachable is None:
+        say("`typetool self-check` failed")
+        return False
+    if not reachable:
         say("the original sources aren't reachable; the crate's module `export` is left out")
         return True
     with open(os.path.join(ROOT, "target", "total.cm"), "w", encoding="ascii") as source:

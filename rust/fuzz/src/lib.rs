@@ -165,11 +165,19 @@ impl Target {
                 assert!(all_are(records, 0), "records");
             }
         }
+        self.loaded.clear();
+        self.loaded.extend_from_slice(records);
         records.fill(WORD);
         assert_eq!(raw::load(lent, records), verdict, "loading again");
         assert!(expected.is_ok() || all_are(records, 0), "records");
-        self.loaded.clear();
-        self.loaded.extend_from_slice(records);
+        // Each word is written as in a cleared buffer, or left.
+        for (word, cleared) in records.iter().zip(&self.loaded) {
+            assert!(
+                word == cleared || (*word == WORD && *cleared == 0),
+                "record words"
+            );
+        }
+        self.loaded.copy_from_slice(records);
         records.fill(WORD);
         assert_eq!(
             raw::load(lent, &mut records[1..]),

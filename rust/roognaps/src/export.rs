@@ -64,8 +64,8 @@ impl From<io::Error> for AskError {
     }
 }
 
-/// Each of these runs on a thread with [`STACK_BYTES`](crate::STACK_BYTES), the original's parser and
-/// index builder with it. Those go as deep as the source is nested and have no bound of their own: a
+/// Each of these runs on a thread with [`STACK_BYTES`](crate::STACK_BYTES), in `ask_sources` the
+/// original's parser and index builder with it. Those go as deep as the source is nested and have no bound of their own: a
 /// source that is nested too deeply ends the process, and array literals around each other take twice
 /// the time for each. What the thread was found to bear is 1,700 blocks or 2,800 parentheses around
 /// each other, more than an index file has room for (128 scopes, 512 expressions).
@@ -112,6 +112,8 @@ impl Resolver {
     pub fn ask_index(&mut self, mut index: Index) -> Result<Vec<AnswerLine>, AskError> {
         let questions = std::mem::take(&mut index.questions);
         on_large_stack(|| {
+            // An index that can't be written is an error without questions too.
+            text(&index)?;
             let mut lines = Vec::new();
             for some in questions.chunks(limits::QUESTIONS) {
                 index.questions = some.to_vec();

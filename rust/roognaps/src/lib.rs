@@ -38,7 +38,7 @@
 //! leaves in the buffers is what the definition says (`include/roognaps.h` has it call by call). It
 //! reads and writes nothing outside them, has no state, allocates nothing and calls nothing but
 //! `memcpy` and its kin. Not proved is this crate, which is small: it lends the buffers and reads the
-//! lines. What the library gives is looked at before it is used; where it makes no sense, the call
+//! lines. What a [`Resolver`] gets is looked at before it is used; where it makes no sense, the call
 //! gives [`Error::Library`].
 //!
 //! Nothing here panics, whatever it is given. Only what a caller hands to [`on_large_stack`], and with

@@ -36,14 +36,14 @@ pub struct Resolver {
 /// Says how long the buffers are, not what they hold.
 impl fmt::Debug for Resolver {
     fn fmt(&self, f: &mut fmt::Formatter<'_>) -> fmt::Result {
-        let Self {
-            records,
-            types,
-            places,
-            out,
-        } = self;
-        let lengths = [records.len(), types.len(), places.len(), out.len()];
-        raw::write_lengths(f, "Resolver", lengths)
+        raw::write_lengths(
+            f,
+            "Resolver",
+            &self.records,
+            &self.types,
+            &self.places,
+            &self.out,
+        )
     }
 }
 

@@ -14,7 +14,7 @@ pub struct Name {
 /// The lookups give what those of the original's `semantic_index.rs` give, for a module number below the
 /// number of modules; for another one, what the words there hold. Scopes, expressions and results are
 /// numbers in the module. With other words than those of an accepted file they read nothing outside the
-/// two slices either, and end, but may take minutes.
+/// two slices either, and end, but with no useful bound on the time.
 ///
 /// ```
 /// use roognaps::raw::{self, Loaded, Name, RECORD_WORDS};
@@ -39,7 +39,7 @@ pub struct Loaded<'a> {
     pub words: &'a [u32],
 }
 
-/// 0 is none, else it is the number and 1.
+/// 0 is none, else it is the number and 1; what can't be a number is none too.
 fn link(given: u64) -> Option<u32> {
     given
         .checked_sub(1)
@@ -47,20 +47,17 @@ fn link(given: u64) -> Option<u32> {
 }
 
 impl Loaded<'_> {
+    /// The file and the words, each with its length: what the functions take in front.
+    fn parts(self) -> (*const u8, usize, *const u32, usize) {
+        let Self { file, words } = self;
+        (file.as_ptr(), file.len(), words.as_ptr(), words.len())
+    }
+
     /// The module of a name.
     pub fn module_by_name(self, name: Name) -> Option<u32> {
-        let Self { file, words } = self;
+        let (file, bytes, words, count) = self.parts();
         // SAFETY: both are slices with their lengths, and nothing is written.
-        link(unsafe {
-            roognaps_module_by_name(
-                file.as_ptr(),
-                file.len(),
-                words.as_ptr(),
-                words.len(),
-                name.start,
-                name.length,
-            )
-        })
+        link(unsafe { roognaps_module_by_name(file, bytes, words, count, name.start, name.length) })
     }
 
     /// The last definition of a name in the first scope that has one, from scope `s` of module `m`
@@ -71,14 +68,14 @@ impl Loaded<'_> {
         s: u32,
         name: Name,
     ) -> Option<u32> {
-        let Self { file, words } = self;
+        let (file, bytes, words, count) = self.parts();
         // SAFETY: both are slices with their lengths, and nothing is written.
         link(unsafe {
             roognaps_latest_definition_index_by_name_in_chain(
-                file.as_ptr(),
-                file.len(),
-                words.as_ptr(),
-                words.len(),
+                file,
+                bytes,
+                words,
+                count,
                 m,
                 s,
                 name.start,
@@ -95,14 +92,14 @@ impl Loaded<'_> {
         s: u32,
         span: (u32, u32),
     ) -> Option<u32> {
-        let Self { file, words } = self;
+        let (file, bytes, words, count) = self.parts();
         // SAFETY: both are slices with their lengths, and nothing is written.
         link(unsafe {
             roognaps_resolve_name_at_position(
-                file.as_ptr(),
-                file.len(),
-                words.as_ptr(),
-                words.len(),
+                file,
+                bytes,
+                words,
+                count,
                 m,
                 name.start,
                 name.length,
@@ -115,16 +112,16 @@ impl Loaded<'_> {
 
     /// The definition that expression `e` of module `m` records.
     pub fn definition_for_identifier_expr(self, m: u32, e: u32) -> Option<u32> {
-        let (from, count) = (self.words.as_ptr(), self.words.len());
+        let (_, _, words, count) = self.parts();
         // SAFETY: a slice with its length, and nothing is written.
-        link(unsafe { roognaps_definition_for_identifier_expr(from, count, m, e) })
+        link(unsafe { roognaps_definition_for_identifier_expr(words, count, m, e) })
     }
 
     /// The first function definition of module `m` whose scope is `s` or an ancestor of it.
     pub fn first_function_around(self, m: u32, s: u32) -> Option<u32> {
-        let (from, count) = (self.words.as_ptr(), self.words.len());
+        let (_, _, words, count) = self.parts();
         // SAFETY: a slice with its length, and nothing is written.
-        link(unsafe { roognaps_first_function_around(from, count, m, s) })
+        link(unsafe { roognaps_first_function_around(words, count, m, s) })
     }
 }
 

@@ -2,12 +2,13 @@
 //! library declares them. What each promises stands in `include/roognaps.h`;
 //! [`Resolver`](crate::Resolver) is the usual way.
 //!
-//! Slices may have any length, also too short a one: then the answer is refusal 1 and nothing is
-//! touched. The functions as the library declares them (`roognaps_..`) take a slice as a pointer and
-//! a length; the pointers must be valid for their lengths, and no two buffers may overlap.
+//! Slices may have any length, also too short a one: a call that loads then gives refusal 1 and touches
+//! nothing, and a lookup goes by what is there. The functions as the library declares them
+//! (`roognaps_..`) take a slice as a pointer and a length; the pointers must be valid for their
+//! lengths, and no buffer that is written may overlap another.
 //!
-//! A call that answers wants 8 MB of stack ([`on_large_stack`](crate::on_large_stack)), and too little
-//! ends the process. Loading and the lookups take little.
+//! A call that answers wants a thread with 8 MB of stack ([`on_large_stack`](crate::on_large_stack)),
+//! and too little ends the process. Loading and the lookups take little.
 
 use std::fmt;
 
@@ -56,14 +57,14 @@ pub struct Buffers<'a> {
 /// Says how long they are, not what they hold.
 impl fmt::Debug for Buffers<'_> {
     fn fmt(&self, f: &mut fmt::Formatter<'_>) -> fmt::Result {
-        let Self {
-            records,
-            types,
-            places,
-            out,
-        } = self;
-        let lengths = [records.len(), types.len(), places.len(), out.len()];
-        write_lengths(f, "Buffers", lengths)
+        write_lengths(
+            f,
+            "Buffers",
+            self.records,
+            self.types,
+            self.places,
+            self.out,
+        )
     }
 }
 
@@ -71,13 +72,16 @@ impl fmt::Debug for Buffers<'_> {
 pub(crate) fn write_lengths(
     f: &mut fmt::Formatter<'_>,
     name: &str,
-    [records, types, places, out]: [usize; 4],
+    records: &[u32],
+    types: &[u32],
+    places: &[Place],
+    out: &[u8],
 ) -> fmt::Result {
     f.debug_struct(name)
-        .field("record_words", &records)
-        .field("type_words", &types)
-        .field("places", &places)
-        .field("answer_bytes", &out)
+        .field("record_words", &records.len())
+        .field("type_words", &types.len())
+        .field("places", &places.len())
+        .field("answer_bytes", &out.len())
         .finish()
 }
 
