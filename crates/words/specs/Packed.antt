@@ -19,7 +19,7 @@ cell-word table k = word-behind (drop (k * 9) table)
 
 -- a number below 32, from the first byte, the last byte and the length
 abbrev pub hash-of : Text → ℕ
-hash-of field = (22 * getD field 0 0 + 36 * getD field (length field - 1) 0 + 15 * (length field % 4)) / 8 % 32
+hash-of field = (23 * getD field 0 0 + 23 * getD field (length field - 1) 0 + 57 * (length field % 4)) / 8 % 32
 
 -- the place of the one word that the field can be
 abbrev pub candidate : Text → Text → ℕ

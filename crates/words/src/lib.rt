@@ -92,7 +92,7 @@ fn hash(field: &[u8]) -> usize
     }
     let first = wide(field[0]);
     let last = wide(field[n - 1]);
-    (22 * first + 36 * last + 15 * (n % 4)) / 8 % 32
+    (23 * first + 23 * last + 57 * (n % 4)) / 8 % 32
 }
 
 // The place of the word of the table that the field is: of the one that the map gives for the field's hash, if that is the field.
@@ -138,7 +138,7 @@ pub fn line_word(field: &[u8]) -> LineWord
     match find_word(
         field,
         b"\x01M\0\0\0\0\0\0\0\x01S\0\0\0\0\0\0\0\x01T\0\0\0\0\0\0\0\x01D\0\0\0\0\0\0\0\x01E\0\0\0\0\0\0\0\x01Q\0\0\0\0\0\0\0",
-        b"\0\0\x02\0\0\0\0\0\0\0\0\0\0\x05\x03\0\0\0\0\0\0\0\x04\0\0\0\0\x01\0\0\0\0",
+        b"\0\0\0\0\x01\0\0\0\0\0\x02\0\0\0\x03\0\0\0\0\x04\0\0\0\0\x05\0\0\0\0\0\0\0",
     ) {
         Found::At(k) => line_word_at(k),
         Found::Nothing => LineWord::Other,
@@ -163,7 +163,7 @@ pub fn scope_word(field: &[u8]) -> ScopeWord
     match find_word(
         field,
         b"\x06module\0\0\x08function\x05block\0\0\0\x04loop\0\0\0\0",
-        b"\0\x03\0\0\0\0\0\x01\0\0\0\0\0\0\0\0\x02\0\0\0\0\0\0\0\0\0\0\0\0\0\0\0",
+        b"\0\x01\0\0\0\0\0\0\0\0\0\0\0\0\0\0\0\0\0\0\x02\0\0\0\x03\0\0\0\0\0\0\0",
     ) {
         Found::At(k) => scope_word_at(k),
         Found::Nothing => ScopeWord::Other,
@@ -191,7 +191,7 @@ pub fn type_word(field: &[u8]) -> TypeWord
     match find_word(
         field,
         b"\x04felt\0\0\0\0\x04bool\0\0\0\0\x03u32\0\0\0\0\0\x06custom\0\0\x03ptr\0\0\0\0\0\x05tuple\0\0\0\x05array\0\0\0",
-        b"\0\0\0\0\0\0\0\x05\x02\0\0\0\0\x06\0\0\0\0\0\x01\0\0\0\0\0\0\x04\0\0\0\x03\0",
+        b"\0\0\0\0\x03\0\0\0\0\0\0\0\0\0\0\0\x01\0\0\0\0\x02\0\x05\0\x06\0\0\0\0\0\x04",
     ) {
         Found::At(k) => type_word_at(k),
         Found::Nothing => TypeWord::Other,
@@ -219,7 +219,7 @@ pub fn definition_word(field: &[u8]) -> DefinitionWord
     match find_word(
         field,
         b"\x02fn\0\0\0\0\0\0\x06struct\0\0\x05const\0\0\0\x03let\0\0\0\0\0\x05param\0\0\0\x03use\0\0\0\0\0\x04loop\0\0\0\0",
-        b"\x04\x06\0\0\0\0\0\0\0\0\x01\0\0\x05\0\0\0\0\0\0\0\0\0\0\x03\0\0\0\x02\0\0\0",
+        b"\0\0\x04\0\0\0\x01\0\x05\0\0\0\0\0\0\0\0\x02\0\0\0\0\0\0\x06\x03\0\0\0\0\0\0",
     ) {
         Found::At(k) => definition_word_at(k),
         Found::Nothing => DefinitionWord::Other,
@@ -246,7 +246,7 @@ pub fn origin_word(field: &[u8]) -> OriginWord
     match find_word(
         field,
         b"\x05plain\0\0\0\x05field\0\0\0\x03arg\0\0\0\0\0\x06assign\0\0\x06return\0\0\x04cond\0\0\0\0",
-        b"\0\0\0\0\0\0\0\0\0\0\0\0\x04\0\0\0\0\0\x05\0\0\0\0\0\0\0\0\0\x01\x03\0\x02",
+        b"\0\x03\0\0\0\0\0\0\0\0\0\x01\0\0\0\0\0\0\x04\0\x02\0\0\0\0\0\0\0\x05\0\0\0",
     ) {
         Found::At(k) => origin_word_at(k),
         Found::Nothing => OriginWord::Other,
@@ -283,7 +283,7 @@ pub fn node_word(field: &[u8]) -> NodeWord
     match find_word(
         field,
         b"\x03lit\0\0\0\0\0\x04bool\0\0\0\0\x05ident\0\0\0\x02un\0\0\0\0\0\0\x03bin\0\0\0\0\0\x04call\0\0\0\0\x06member\0\0\x05index\0\0\0\x04slit\0\0\0\0\x05tuple\0\0\0\x04tidx\0\0\0\0\x03arr\0\0\0\0\0\x03rep\0\0\0\0\0\x04cast\0\0\0\0\x03new\0\0\0\0\0\x05paren\0\0\0",
-        b"\0\0\x04\0\x0f\0\x08\x09\0\0\0\x0e\x02\0\0\0\x06\x0b\0\x01\x03\0\x05\x0c\0\0\x0d\x0a\0\0\x07\0",
+        b"\0\0\x02\0\0\x0f\x0a\x0e\0\0\x0d\x04\0\0\x07\x06\x01\0\0\x05\x0b\0\0\x09\x08\0\x03\0\0\0\0\x0c",
     ) {
         Found::At(k) => node_word_at(k),
         Found::Nothing => NodeWord::Other,
@@ -307,7 +307,7 @@ pub fn question_word(field: &[u8]) -> QuestionWord
     match find_word(
         field,
         b"\x04expr\0\0\0\0\x03def\0\0\0\0\0\x04type\0\0\0\0",
-        b"\0\0\0\x01\0\x02\0\0\0\0\0\0\0\0\0\0\0\0\0\0\0\0\0\0\0\0\0\0\0\0\0\0",
+        b"\0\0\0\0\0\0\0\0\0\0\0\0\0\0\0\x02\0\0\0\0\0\0\0\0\0\0\x01\0\0\0\0\0",
     ) {
         Found::At(k) => question_word_at(k),
         Found::Nothing => QuestionWord::Other,

@@ -42,7 +42,7 @@ add-result-2 c = search needs
 returns-2 : tie.Need-returns-2
 returns-2 c =
     let n = length (c .before .before .before .before .before .before .args .field .now) in
-    λ i. (22 * c .before .before .wide .ensures .0 i + 36 * c .wide2 .ensures .0 i + 15 * (n % 4)) / 8 % 32
+    λ i. (23 * c .before .before .wide .ensures .0 i + 23 * c .wide2 .ensures .0 i + 57 * (n % 4)) / 8 % 32
 
 pub hash-spec : {M : Type 1} → statement M
 hash-spec =
