@@ -11,7 +11,7 @@ OUT/docs-N.index and OUT/docs-N.printed. With --oracle each file is also given t
 in a block that opens with ```index rust-differs.
 
 In the second form every example of every document is given to PROGRAM (target/bin/resolve) on its standard input, and a difference in what it
-prints is an error.
+prints is an error. README's first example also stands as the file that its first command reads; another content of that file is an error.
 """
 import os
 import re
@@ -21,6 +21,7 @@ import sys
 ROOT = os.path.dirname(os.path.dirname(os.path.abspath(__file__)))
 # The documents whose examples the crate oracle_sample has; those of the others are only run.
 DOCUMENTS = ["README.md", "docs/DECISIONS.md", "docs/DIFFERENCES.md"]
+FIRST_DOCUMENT, FIRST_FILE = "README.md", "examples/sum.idx"
 BLOCK = re.compile(r"^( *)```index( rust-differs)?\n(.*?\n) *\n(.*?)^\1```$", re.M | re.S)
 
 
@@ -47,7 +48,7 @@ def ended(number, differing):
 
 
 def every_document():
-    return ["README.md"] + sorted("docs/" + name for name in os.listdir(os.path.join(ROOT, "docs")) if name.endswith(".md"))
+    return [FIRST_DOCUMENT] + sorted("docs/" + name for name in os.listdir(os.path.join(ROOT, "docs")) if name.endswith(".md"))
 
 
 def opened(documents):
@@ -66,6 +67,9 @@ def run(program):
         said = said_by([program], index)
         if said != printed:
             differing.append("%s: for\n%sthe program prints\n%s" % (document, index.decode(), said.decode()))
+    with open(os.path.join(ROOT, FIRST_FILE), "rb") as f:
+        if f.read() != next(examples([FIRST_DOCUMENT]))[2]:
+            differing.append("%s is not the first example of %s" % (FIRST_FILE, FIRST_DOCUMENT))
     begun = opened(every_document())
     if number != begun or number == 0:
         differing.append("%d examples begin in the documents" % begun)
