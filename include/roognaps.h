@@ -10,7 +10,9 @@
  * definition's index and table, zero, or as they were. Of words that no record or type uses nothing
  * is said after an accepted file. Behind the lengths below nothing changes. The functions keep nothing
  * between two calls, allocate nothing, and call nothing but memcpy and its kin of the C library. So
- * calls from several threads are fine as long as no two of them share a buffer that is written.
+ * calls from several threads are fine as long as no two of them share a buffer that is written. Each
+ * call loads its file: what stands in the buffers before it, record words among it, has no part in the
+ * result.
  *
  * What the caller promises: each pointer is valid for its length (counted in elements, not in bytes),
  * aligned for its element, and not NULL unless the length is 0; no buffer that is written overlaps
@@ -50,7 +52,8 @@ extern "C" {
 typedef uint32_t roognaps_place[5];
 
 /*
- * Loads a file into the record words. 0: accepted, and the words hold the index (docs/LAYOUT.md).
+ * Checks a file by loading it. 0: accepted, and the record words hold its index, for looking at by
+ * docs/LAYOUT.md, as in a debugger: no function here reads record words that the caller hands over.
  * Else 2^32 times the refusal (1 to 5) plus the line, 0 where no line is at fault: after 1 the words
  * are as they were, after 2 to 5 the first 16,384 are zero. Takes little stack.
  * Take the result apart with roognaps_refusal and roognaps_line.
@@ -124,35 +127,6 @@ static inline uint32_t roognaps_next(uint64_t result)
 {
     return (uint32_t)(result >> 32);
 }
-
-/*
- * Lookups in loaded words: `words` are those of an accepted file, `file` its bytes. m is a module's
- * number in the file; s, e and the result are numbers in that module. A name is the place of its first
- * byte in the file and its length. The result is 0 for none, else the number and 1.
- * They promise what the lookups of semantic_index.rs give, for a module number below the number of
- * modules; for another one, what the words there hold.
- */
-uint64_t roognaps_module_by_name(const uint8_t *file, size_t file_bytes,
-                                 const uint32_t *words, size_t word_count,
-                                 uint32_t start, uint32_t length);
-
-/* The last definition of a name in the first scope that has one, from scope s upward. */
-uint64_t roognaps_latest_definition_index_by_name_in_chain(
-    const uint8_t *file, size_t file_bytes, const uint32_t *words, size_t word_count,
-    uint32_t m, uint32_t s, uint32_t start, uint32_t length);
-
-/* The definition that a name leads to, used in scope s at the span from `from` to `to`. */
-uint64_t roognaps_resolve_name_at_position(
-    const uint8_t *file, size_t file_bytes, const uint32_t *words, size_t word_count,
-    uint32_t m, uint32_t start, uint32_t length, uint32_t s, uint32_t from, uint32_t to);
-
-/* The definition that expression e records. */
-uint64_t roognaps_definition_for_identifier_expr(const uint32_t *words, size_t word_count,
-                                                 uint32_t m, uint32_t e);
-
-/* The first function definition whose scope is s or an ancestor of it. */
-uint64_t roognaps_first_function_around(const uint32_t *words, size_t word_count,
-                                        uint32_t m, uint32_t s);
 
 #ifdef __cplusplus
 }

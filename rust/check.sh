@@ -31,7 +31,8 @@ fi
 step test cargo test --offline
 if at_hand cargo fmt; then
     step format cargo fmt --check
-    step "format of build parts" rustfmt --check --edition 2024 compiler/originals.rs compiler/reachable.rs compiler/modules.rs
+    step "format of build parts" rustfmt --check --edition 2024 compiler/originals.rs compiler/reachable.rs compiler/modules.rs \
+        roognaps/static_library.rs
 else
     echo "format: cargo fmt isn't at hand"
 fi

@@ -1,10 +1,11 @@
 #!/usr/bin/env python3
 """Builds the static library and runs what stands on it: the example in C, the vectors in C (under valgrind where it is at hand), the Rust
-crate's tests, documentation and examples, and the fuzz target.
+crate's tests, documentation and examples, and the fuzz target; and the tests of the lookups, on the library that is for the benchmark alone.
 
 usage: tools/library_runs.py
 
-The library is target/staticlib/libexport.a, which `rt staticlib export` makes; where EXPORT_LIB names a folder (absolute), the one in it.
+The libraries are target/staticlib/libexport.a and liblookup_bench.a, which `rt staticlib export` and `rt staticlib lookup_bench` make; where
+EXPORT_LIB names a folder (absolute), those in it.
 What the machine lacks (rt, objdump, cc, valgrind, cargo, the original sources) is left out with one line. Exit status 0: everything as owed;
 1: a difference or a failure.
 """
@@ -18,6 +19,8 @@ import sys
 from runs import ROOT, VECTOR_FILES, vectors
 
 MADE = os.path.join(ROOT, "target", "library_runs")
+# The crates whose static libraries are made: the one for users, and the one for the benchmark.
+LIBRARIES = ("export", "lookup_bench")
 WARNINGS = ["-Wall", "-Wextra", "-Werror", "-pedantic", "-std=c11", "-g"]
 # Of the malformed vectors one of so many is run as a process of its own; all are replayed in one.
 MALFORMED_STEP = 10
@@ -38,18 +41,18 @@ def run(command, **options):
     return subprocess.run(command, stdout=subprocess.PIPE, stderr=subprocess.STDOUT, text=True, check=False, **options)
 
 
-def library():
-    """The folder of the static library; none if it can't be had here. Ends the run where it fails."""
+def libraries():
+    """The folder of the static libraries; none if they can't be had here. Ends the run where making one fails."""
     folder = os.environ.get("EXPORT_LIB")
     if folder is None:
         folder = os.path.join(ROOT, "target", "staticlib")
-        if shutil.which("rt"):
-            made = run(["rt", "staticlib", "export"], cwd=ROOT)
+        for name in LIBRARIES if shutil.which("rt") else ():
+            made = run(["rt", "staticlib", name], cwd=ROOT)
             if made.returncode != 0:
                 print(made.stdout)
-                say("`rt staticlib export` failed")
+                say(f"`rt staticlib {name}` failed")
                 sys.exit(1)
-    return folder if os.path.exists(os.path.join(folder, "libexport.a")) else None
+    return folder if all(os.path.exists(os.path.join(folder, f"lib{name}.a")) for name in LIBRARIES) else None
 
 
 def steps_down(listing):
@@ -272,12 +275,13 @@ def linted():
     return cargo("the lint", "clippy", "--offline", *packages, "--all-targets", "--", "-D", "warnings") is not None
 
 
-def tests():
-    tested = cargo("the crate's tests", "test", "--offline", "-p", "roognaps", "--features", "export")
+def tests(package, *words):
+    """The tests of a package pass, and there are some."""
+    tested = cargo(f"the tests of rust/{package}", "test", "--offline", "-p", package, *words)
     if tested is None:
         return False
     passed = [int(count) for count in re.findall(r"^test result: ok\. (\d+) passed", tested, re.MULTILINE)]
-    say(f"rust/roognaps: {sum(passed)} tests passed")
+    say(f"rust/{package}: {sum(passed)} tests passed")
     if sum(passed) == 0:
         say("no test was run")
     return sum(passed) > 0
@@ -293,14 +297,18 @@ def fuzz_target():
 
 
 def rust_crate():
-    return tests() and documented() and linted() and example("moved", "--example", "moved") and with_originals() and fuzz_target()
+    tested = tests("roognaps", "--features", "export") and tests("bench")
+    return tested and documented() and linted() and example("moved", "--example", "moved") and with_originals() and fuzz_target()
 
 
 def main():
     os.makedirs(MADE, exist_ok=True)
-    folder = library()
+    folder = libraries()
+    if folder is None and "EXPORT_LIB" in os.environ:
+        say("EXPORT_LIB names a folder that doesn't have both libraries")
+        return 1
     if folder is None:
-        say("the static library isn't there, and rt isn't at hand to make it; left out")
+        say("the static libraries aren't there, and rt isn't at hand to make them; left out")
         return 0
     well = large_frames(folder)
     if shutil.which("cc"):

@@ -1,40 +1,14 @@
-//! Says where the static library of the proved crates stands: the repository's target/staticlib, or
-//! the folder that `EXPORT_LIB` names. Where it isn't there, the build ends with one line that says
-//! what makes it. `ROOGNAPS_UNLINKED=1` is for `cargo check`, `clippy` and `doc`, which link nothing.
-//! With the feature `export` sets `cfg(originals)` where the original sources are reachable.
+//! Links the static library of the crate `export`. With the feature `export` sets `cfg(originals)` where
+//! the original sources are reachable.
 
 include!("../compiler/originals.rs");
 include!("../compiler/reachable.rs");
+include!("static_library.rs");
 
 fn main() {
     match std::env::var_os("CARGO_FEATURE_EXPORT") {
         Some(_) => _ = originals_are_reachable(),
         None => println!("cargo::rustc-check-cfg=cfg(originals)"),
     }
-    println!("cargo::rerun-if-env-changed=EXPORT_LIB");
-    println!("cargo::rerun-if-env-changed=ROOGNAPS_UNLINKED");
-    if std::env::var_os("ROOGNAPS_UNLINKED").is_some() {
-        return;
-    }
-    let here = std::env::var("CARGO_MANIFEST_DIR").expect("cargo sets it");
-    let folder = match std::env::var("EXPORT_LIB") {
-        Ok(folder) => PathBuf::from(folder),
-        Err(_) => {
-            let repository = Path::new(&here).ancestors().nth(2);
-            repository.expect("rust/roognaps").join("target/staticlib")
-        }
-    };
-    let library = folder.join("libexport.a");
-    println!("cargo::rerun-if-changed={}", library.display());
-    let Ok(library) = library.canonicalize() else {
-        println!(
-            "cargo::error={} isn't there: run `rt staticlib export` in the repository's first \
-             folder, which proves the library and makes it, or name its folder in EXPORT_LIB",
-            library.display()
-        );
-        return;
-    };
-    let folder = library.parent().expect("a folder and a name");
-    println!("cargo::rustc-link-search=native={}", folder.display());
-    println!("cargo::rustc-link-lib=static=export");
+    link_static_library("export");
 }

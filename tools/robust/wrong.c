@@ -92,38 +92,3 @@ uint64_t roognaps_answer_from(const uint8_t *file, size_t file_bytes, uint32_t f
     }
     return given;
 }
-
-/* The lookups, which the crate declares too. */
-uint64_t roognaps_module_by_name(const uint8_t *file, size_t file_bytes, const uint32_t *words, size_t word_count,
-                                 uint32_t start, uint32_t length)
-{
-    (void)file, (void)file_bytes, (void)words, (void)word_count, (void)start, (void)length;
-    return result();
-}
-
-uint64_t roognaps_latest_definition_index_by_name_in_chain(const uint8_t *file, size_t file_bytes,
-                                                           const uint32_t *words, size_t word_count, uint32_t m,
-                                                           uint32_t s, uint32_t start, uint32_t length)
-{
-    (void)m, (void)s;
-    return roognaps_module_by_name(file, file_bytes, words, word_count, start, length);
-}
-
-uint64_t roognaps_resolve_name_at_position(const uint8_t *file, size_t file_bytes, const uint32_t *words,
-                                           size_t word_count, uint32_t m, uint32_t start, uint32_t length,
-                                           uint32_t s, uint32_t from, uint32_t to)
-{
-    (void)m, (void)s, (void)from, (void)to;
-    return roognaps_module_by_name(file, file_bytes, words, word_count, start, length);
-}
-
-uint64_t roognaps_definition_for_identifier_expr(const uint32_t *words, size_t word_count, uint32_t m, uint32_t e)
-{
-    (void)words, (void)word_count, (void)m, (void)e;
-    return result();
-}
-
-uint64_t roognaps_first_function_around(const uint32_t *words, size_t word_count, uint32_t m, uint32_t s)
-{
-    return roognaps_definition_for_identifier_expr(words, word_count, m, s);
-}

@@ -2,7 +2,6 @@
 use Prim.Native.Nat.{ℕ, _+_, _*_, _%_, _≤_, _<_}
 use mathlib.Core.Path.{_≡_}
 use mathlib.Core.List.{List}
-use mathlib.Core.Option.{Option, none, some}
 use lib.ListN.{length}
 use Rattle.model.specs.Limits.{record-words}
 use Rattle.loader.specs.Load.{Short, Filled}
@@ -10,11 +9,6 @@ use Rattle.loader.specs.declared.Loaded.{Loaded}
 use Rattle.answers.specs.Promises.{Buffers, LongBuffers, ShortAnswer, Answered, ShortAnswers, AnsweredFrom}
 use Rattle.answers.specs.declared.LineAnswer.{LineAnswer}
 use Rattle.answers.specs.declared.LinesAnswer.{LinesAnswer}
-
--- a link that may be absent: 0, or the number and 1
-abbrev pub link-number : Option ℕ → ℕ
-link-number none = 0
-link-number (some n) = n + 1
 
 -- 0 for an accepted file, else 2^32 times the refusal's number and its line
 abbrev pub loaded-number : Loaded → ℕ

@@ -10,24 +10,23 @@ use crate::files::File;
 use crate::library;
 use crate::timing::{Contender, medians};
 
-/// Whether the proved function accepts the file and writes the words that docs/LAYOUT.md sets out
-/// into a cleared buffer; else says what differs.
-pub fn words_of(file: &File, compare: bool) -> Result<Vec<u32>, String> {
+/// Says what differs unless the proved function accepts the file and, where its words are compared, writes
+/// those that docs/LAYOUT.md sets out into a cleared buffer.
+pub fn compared(file: &File, compare_words: bool) -> Result<(), String> {
     let index = load::load(&file.bytes).expect("a right file");
-    let expected = words(&file.bytes, &index);
     let mut records = vec![0; WORDS];
     library::load(&file.bytes, &mut records)
         .map_err(|refusal| format!("{}: {}", file.name, refusal.answer_line()))?;
-    if !compare {
-        return Ok(expected);
+    if !compare_words {
+        return Ok(());
     }
-    let plain = with_plain_empty_lists(&records);
-    let other = with_plain_empty_lists(&expected);
-    match (0..WORDS).find(|at| plain[*at] != other[*at]) {
-        None => Ok(records),
+    let given = with_plain_empty_lists(&records);
+    let owed = with_plain_empty_lists(&words(&file.bytes, &index));
+    match (0..WORDS).find(|at| given[*at] != owed[*at]) {
+        None => Ok(()),
         Some(at) => Err(format!(
             "{}: word {at} is {}, not {}",
-            file.name, plain[at], other[at]
+            file.name, given[at], owed[at]
         )),
     }
 }

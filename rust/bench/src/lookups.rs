@@ -1,4 +1,5 @@
-//! Lookups on a loaded index: the proved functions over its words, and the original's hash maps.
+//! Lookups on a loaded index: the proved functions over its words, and the original's hash maps. The
+//! proved ones are those of the crate `lookup_bench`; the library for users takes no record words.
 
 use std::collections::hash_map::RandomState;
 use std::hash::BuildHasherDefault;
@@ -6,9 +7,9 @@ use std::hint::black_box;
 
 use index_file::load::load;
 use index_file::records::Node;
-use roognaps::raw::{Loaded, Name};
 
 use crate::hash_maps::{FxHasher, Tables};
+use crate::lookup_library::{self, Loaded, Name, RECORD_WORDS};
 use crate::timing::{Contender, medians};
 
 /// What is asked: a name in a scope at a span, or an expression.
@@ -32,9 +33,14 @@ struct Lookup<'a> {
     std: &'a dyn Fn(&Question) -> Option<usize>,
 }
 
-pub fn table(file: &[u8], words: &[u32], rounds: usize) {
+pub fn table(file: &[u8], rounds: usize) {
     let index = load(file).expect("a right file");
-    let loaded = Loaded { file, words };
+    let mut words = vec![0; RECORD_WORDS];
+    assert_eq!(lookup_library::load(file, &mut words), 0, "accepted");
+    let loaded = Loaded {
+        file,
+        words: &words,
+    };
     let (fx, std) = (FxMaps::new(&index), StdMaps::new(&index));
     let names = names(file);
     let mut asked = Vec::new();
@@ -75,10 +81,7 @@ pub fn table(file: &[u8], words: &[u32], rounds: usize) {
         Lookup {
             name: "latest_definition_index_by_name_in_chain",
             proved: &|q| {
-                link(
-                    loaded
-                        .latest_definition_index_by_name_in_chain(q.m as u32, q.s as u32, q.place),
-                )
+                loaded.latest_definition_index_by_name_in_chain(q.m as u32, q.s as u32, q.place)
             },
             fx: &|q| fx.latest_definition_index_by_name_in_chain(q.m, q.s, q.name),
             std: &|q| std.latest_definition_index_by_name_in_chain(q.m, q.s, q.name),
@@ -91,7 +94,7 @@ pub fn table(file: &[u8], words: &[u32], rounds: usize) {
             name: "resolve_name_at_position",
             proved: &|q| {
                 let span = (q.span.0 as u32, q.span.1 as u32);
-                link(loaded.resolve_name_at_position(q.m as u32, q.place, q.s as u32, span))
+                loaded.resolve_name_at_position(q.m as u32, q.place, q.s as u32, span)
             },
             fx: &|q| fx.resolve_name_at_position(q.m, q.name, q.s, q.span),
             std: &|q| std.resolve_name_at_position(q.m, q.name, q.s, q.span),
@@ -102,7 +105,7 @@ pub fn table(file: &[u8], words: &[u32], rounds: usize) {
         rounds,
         Lookup {
             name: "definition_for_identifier_expr",
-            proved: &|q| link(loaded.definition_for_identifier_expr(q.m as u32, q.e as u32)),
+            proved: &|q| loaded.definition_for_identifier_expr(q.m as u32, q.e as u32),
             fx: &|q| fx.definition_for_identifier_expr(q.m, q.e),
             std: &|q| std.definition_for_identifier_expr(q.m, q.e),
         },
@@ -112,7 +115,7 @@ pub fn table(file: &[u8], words: &[u32], rounds: usize) {
         rounds,
         Lookup {
             name: "first_function_around (no map)",
-            proved: &|q| link(loaded.first_function_around(q.m as u32, q.s as u32)),
+            proved: &|q| loaded.first_function_around(q.m as u32, q.s as u32),
             fx: &|q| fx.first_function_around(q.m, q.s),
             std: &|q| std.first_function_around(q.m, q.s),
         },
@@ -122,15 +125,11 @@ pub fn table(file: &[u8], words: &[u32], rounds: usize) {
         rounds,
         Lookup {
             name: "module_by_name (std's map in the original)",
-            proved: &|q| link(loaded.module_by_name(q.place)),
+            proved: &|q| loaded.module_by_name(q.place),
             fx: &|q| fx.module_by_name(q.name),
             std: &|q| std.module_by_name(q.name),
         },
     );
-}
-
-fn link(number: Option<u32>) -> Option<usize> {
-    number.map(|number| number as usize)
 }
 
 /// Asks all questions of each side; the answers must be the same.

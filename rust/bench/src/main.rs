@@ -1,5 +1,5 @@
 //! Times of the proved functions against the Rust: loading, lookups and answering. `run.sh` makes the
-//! static library that this links.
+//! two static libraries that this links: that of the crate `export`, and that of `lookup_bench`.
 
 #[cfg(originals)]
 mod answered_files;
@@ -12,6 +12,7 @@ mod files;
 mod hash_maps;
 mod library;
 mod loading;
+mod lookup_library;
 mod lookups;
 mod timing;
 
@@ -32,7 +33,7 @@ target/compare.
 
   --rounds N     take the median of N rounds (else 25)
   --write DIR    only write the measured files there
-  --any-words    don't compare the words, and give the lookups right ones
+  --any-words    don't compare the words
 
 exit status: 0 measured or all equal, 1 a difference, 2 a wrong argument";
 
@@ -107,21 +108,16 @@ fn ended(all_equal: Result<bool, String>) -> ExitCode {
 }
 
 fn measure(files: &[files::File], rounds: usize, compare: bool) -> ExitCode {
-    let mut words = Vec::new();
     for file in files {
-        match loading::words_of(file, compare) {
-            Ok(of_file) => words.push(of_file),
-            Err(difference) => {
-                println!("{difference}");
-                return ExitCode::FAILURE;
-            }
+        if let Err(difference) = loading::compared(file, compare) {
+            println!("{difference}");
+            return ExitCode::FAILURE;
         }
     }
     loading::table(files, rounds);
     println!();
-    let largest = (0..files.len()).max_by_key(|at| files[*at].bytes.len());
-    let largest = largest.expect("there are files");
-    lookups::table(&files[largest].bytes, &words[largest], rounds);
+    let largest = files.iter().max_by_key(|file| file.bytes.len());
+    lookups::table(&largest.expect("there are files").bytes, rounds);
     ExitCode::SUCCESS
 }
 

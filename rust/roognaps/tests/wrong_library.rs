@@ -1,6 +1,5 @@
 //! With a library that answers at random (tools/robust/wrong.c) every call gives a value and ends.
 
-use roognaps::raw::{Loaded, Name};
 use roognaps::{Error, Resolver, on_large_stack};
 
 #[test]
@@ -16,7 +15,6 @@ fn no_call_panics() {
                 resolver.answers(b"").map(|lines| lines.len()),
                 resolver.resolve(b"").map(|text| text.len()),
             ];
-            look_up(number);
             for end in ends {
                 match end {
                     Ok(_) => counts[0] += 1,
@@ -36,21 +34,4 @@ fn no_call_panics() {
     let counts = counts.expect("a thread");
     println!("answers, refusals, faults: {counts:?}");
     assert!(counts.iter().all(|count| *count > 1_000), "{counts:?}");
-}
-
-/// No lookup panics on what the library gives.
-fn look_up(number: u32) {
-    let loaded = Loaded {
-        file: b"",
-        words: &[],
-    };
-    let name = Name {
-        start: number,
-        length: 1,
-    };
-    loaded.module_by_name(name);
-    loaded.latest_definition_index_by_name_in_chain(0, 0, name);
-    loaded.resolve_name_at_position(0, name, 0, (0, 0));
-    loaded.definition_for_identifier_expr(0, number);
-    loaded.first_function_around(0, number);
 }

@@ -1,10 +1,10 @@
--- `export::definition_number` meets its contract: the link decides. Assumes nothing.
+-- `lookup_bench::definition_number` meets its contract: the link decides. Assumes nothing.
 use mathlib.Core.Path.{sym, ap}
 use borrow.Author.Needs.{needs}
 use Rattle.records.specs.Meaning.{definition-link-of}
-use Rattle.export.specs.Numbers.{link-number}
-use Rattle.export.proofs.definition_number.Statement.{statement}
-use Rattle.export.proofs.definition_number.Tie as tie
+use Rattle.lookup_bench.specs.Numbers.{link-number}
+use Rattle.lookup_bench.proofs.definition_number.Statement.{statement}
+use Rattle.lookup_bench.proofs.definition_number.Tie as tie
 
 enum-told : tie.Need-enum-told
 enum-told c = search needs

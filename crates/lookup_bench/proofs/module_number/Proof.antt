@@ -1,10 +1,10 @@
--- `export::module_number` meets its contract: the link decides. Assumes nothing.
+-- `lookup_bench::module_number` meets its contract: the link decides. Assumes nothing.
 use mathlib.Core.Path.{sym, ap}
 use borrow.Author.Needs.{needs}
 use Rattle.semantic_index.specs.Meaning.{module-link-of}
-use Rattle.export.specs.Numbers.{link-number}
-use Rattle.export.proofs.module_number.Statement.{statement}
-use Rattle.export.proofs.module_number.Tie as tie
+use Rattle.lookup_bench.specs.Numbers.{link-number}
+use Rattle.lookup_bench.proofs.module_number.Statement.{statement}
+use Rattle.lookup_bench.proofs.module_number.Tie as tie
 
 enum-told : tie.Need-enum-told
 enum-told c = search needs

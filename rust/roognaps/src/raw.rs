@@ -2,24 +2,18 @@
 //! library declares them. What each promises stands in `include/roognaps.h`;
 //! [`Resolver`](crate::Resolver) is the usual way.
 //!
-//! Slices may have any length, also too short a one: a call that loads then gives refusal 1 and touches
-//! nothing, and a lookup goes by what is there. The functions as the library declares them
-//! (`roognaps_..`) take a slice as a pointer and a length; the pointers must be valid for their
-//! lengths, and no buffer that is written may overlap another.
+//! Slices may have any length, also too short a one: the call then gives refusal 1 and touches nothing.
+//! The functions as the library declares them (`roognaps_..`) take a slice as a pointer and a length; the
+//! pointers must be valid for their lengths, and no buffer that is written may overlap another.
+//!
+//! What a call finds in the buffers changes nothing in its result: every call loads its file. After an
+//! accepted file the record words hold its index as `docs/LAYOUT.md` sets out, for looking at in a
+//! debugger; no function takes them in again.
 //!
 //! A call that answers wants a thread with 8 MB of stack ([`on_large_stack`](crate::on_large_stack)),
-//! and too little ends the process. Loading and the lookups take little.
+//! and too little ends the process. Loading takes little.
 
 use std::fmt;
-
-mod lookups;
-
-pub use lookups::{Loaded, Name};
-pub use lookups::{
-    roognaps_definition_for_identifier_expr, roognaps_first_function_around,
-    roognaps_latest_definition_index_by_name_in_chain, roognaps_module_by_name,
-    roognaps_resolve_name_at_position,
-};
 
 /// Words of 32 bits in a record buffer.
 pub const RECORD_WORDS: usize = 16_384;
@@ -132,7 +126,7 @@ pub fn enter(entry: Entry, file: &[u8], number: u32, buffers: Buffers<'_>) -> u6
 }
 
 unsafe extern "C" {
-    /// Loads a file. 0: accepted. Else 2^32 times the refusal, plus the line.
+    /// Loads a file, to check it. 0: accepted. Else 2^32 times the refusal, plus the line.
     pub fn roognaps_load(
         file: *const u8,
         file_bytes: usize,

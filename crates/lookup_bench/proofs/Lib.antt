@@ -1,0 +1,2 @@
+-- What the proofs of several lookups use.
+pub mod ByModule
