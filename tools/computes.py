@@ -4,7 +4,8 @@
 usage: tools/computes.py             (after a definition was added, renamed or moved)
        tools/computes.py --check     (exit status 1 if a file does not name exactly the definitions that there are)
 
-A theorem by computation says `unfolding loads` (loading a file) or `unfolding resolves` (all that `resolve` prints).
+A theorem by computation says `unfolding looks-up` (lookups in records), `unfolding loads` (loading a file) or `unfolding resolves` (all that
+`resolve` prints).
 """
 import os
 import re
@@ -16,12 +17,18 @@ ROOT = os.path.dirname(os.path.dirname(os.path.abspath(__file__)))
 # crate, the name that opens, what it opens, names of other crates' Computes, and the files (crate, module) in the order of reading
 TABLES = [
     (
+        "model",
+        "looks-up",
+        "the lookups, links and counts",
+        [],
+        [("model", m) for m in ("Common", "Lookups", "Links", "Limits")],
+    ),
+    (
         "format",
         "loads",
         "loading",
-        [],
-        [("model", m) for m in ("Common", "Lookups", "Links", "Limits")]
-        + [("format", m) for m in ("Words", "Fields", "Tails", "Shapes", "Lines", "FirstPass", "LinkCheck", "Load")],
+        [("model", "looks-up")],
+        [("format", m) for m in ("Words", "Fields", "Tails", "Shapes", "Lines", "FirstPass", "LinkCheck", "Load")],
     ),
     (
         "resolution",
@@ -64,7 +71,7 @@ def text_of(crate, name, what, others, files):
 def opened_in(path):
     """The names on the `unfolding` line of a written file, in any layout."""
     with open(path, encoding="utf-8") as f:
-        return re.search(r"^unfolding (.*?)^\w+ = tt", f.read(), re.M | re.S)[1].split()
+        return re.search(r"^unfolding (.*?)^\S+ = tt", f.read(), re.M | re.S)[1].split()
 
 
 def main():

@@ -1,9 +1,6 @@
 -- One name that opens every definition of loading: a theorem by computation says `unfolding loads`.
 -- Written by tools/computes.py. Assumes nothing.
-use Rattle.model.specs.Common.{first-some, first, last, any, total, eq-numbers}
-use Rattle.model.specs.Lookups.{is-builtin-function-name, module-named, module-by-name, parent, without-parent, root-scope, chain-from, scope-chain, named, latest-definition-index-by-name, latest-definition-index-by-name-in-chain, is-top-level-allowed, let-value, covered, in-let-initializer, in-order, visible-at, named-and-visible, latest-visible-by-name, resolve-name-at-position, definition-for-identifier-expr, is-function, among, function-around, first-function-around}
-use Rattle.model.specs.Links.{type-types, definition-types, definition-expressions, origin-expressions, node-expressions, node-types, question-module, question-types}
-use Rattle.model.specs.Limits.{scope-count, type-expr-count, definition-count, expression-count, type-expr-items, kind-items, node-items, item-count}
+use Rattle.model.specs.Computes.{looks-up}
 use Rattle.format.specs.Words.{is-keyword, place-in, word-at, word-in, line-word-of, scope-word-of, type-word-of, definition-word-of, origin-word-of, node-word-of, question-word-of, unary-op-at, binary-op-at}
 use Rattle.format.specs.Fields.{field-of, behind, digits, alone, plain-number, number-of, all-visible, is-name, name-value, or-dash, value-of, behind-tab, slot-field, slot}
 use Rattle.format.specs.Tails.{three, at-end, items-within, items, tail}
@@ -14,5 +11,5 @@ use Rattle.format.specs.LinkCheck.{all-below, scope-linked, type-linked,
 use Rattle.format.specs.Load.{version-of, load-lines, load}
 
 unfoldable pub loads : Unit {0}
-unfolding first-some first last any total eq-numbers is-builtin-function-name module-named module-by-name parent without-parent root-scope chain-from scope-chain named latest-definition-index-by-name latest-definition-index-by-name-in-chain is-top-level-allowed let-value covered in-let-initializer in-order visible-at named-and-visible latest-visible-by-name resolve-name-at-position definition-for-identifier-expr is-function among function-around first-function-around type-types definition-types definition-expressions origin-expressions node-expressions node-types question-module question-types scope-count type-expr-count definition-count expression-count type-expr-items kind-items node-items item-count is-keyword place-in word-at word-in line-word-of scope-word-of type-word-of definition-word-of origin-word-of node-word-of question-word-of unary-op-at binary-op-at field-of behind digits alone plain-number number-of all-visible is-name name-value or-dash value-of behind-tab slot-field slot three at-end items-within items tail scope-as type-as definition-as origin-as node-as question-as entry-items word-here module-line scope-line type-line definition-line expression-line question-line line-from on-last add has-line-room is-again step-on lines-within first-pass all-below scope-linked type-linked definition-linked expression-linked question-linked map-from module-lines modules-lines linked-lines link-fault version-of load-lines load
+unfolding looks-up is-keyword place-in word-at word-in line-word-of scope-word-of type-word-of definition-word-of origin-word-of node-word-of question-word-of unary-op-at binary-op-at field-of behind digits alone plain-number number-of all-visible is-name name-value or-dash value-of behind-tab slot-field slot three at-end items-within items tail scope-as type-as definition-as origin-as node-as question-as entry-items word-here module-line scope-line type-line definition-line expression-line question-line line-from on-last add has-line-room is-again step-on lines-within first-pass all-below scope-linked type-linked definition-linked expression-linked question-linked map-from module-lines modules-lines linked-lines link-fault version-of load-lines load
 loads = tt

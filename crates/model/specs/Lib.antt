@@ -6,3 +6,5 @@ pub mod Links
 pub mod Limits
 pub mod Refusals
 pub mod WellFormed
+pub mod Computes
+pub mod LookupCases

@@ -13,3 +13,4 @@ pub mod Inside
 pub mod Secrecy
 pub mod Computes
 pub mod Examples
+pub mod OperatorRows
