@@ -3,7 +3,7 @@
 
 usage: tools/counts.py [LOG]
 
-LOG is what `bash .ci/run` or `rt ci` printed; without it the times are left out. Lines are counted without blank ones and comments.
+LOG is what `bash .ci/run` or `rt ci` printed in a run from nothing; without it the times are left out. Lines are counted without blank ones and comments.
 """
 import glob
 import os
@@ -49,8 +49,9 @@ def main(arguments):
     if len(arguments) > 1 or arguments[:1] in (["-h"], ["--help"]):
         sys.exit(__doc__)
     checks, edits = times(arguments[0]) if arguments else ({}, {})
-    if arguments and not checks:
-        sys.exit("%s: no line of a proved crate" % arguments[0])
+    untold = [crate for crate in crates() if crate not in checks]
+    if arguments and untold:
+        sys.exit("%s: no time of %s" % (arguments[0], ", ".join(untold)))
     head = ["crate", "code", "specs", "proofs", "edits"] + (["check, s", "its edits, s"] if arguments else [])
     row(head)
     row(["---"] * len(head))
@@ -60,7 +61,7 @@ def main(arguments):
         cells = [lines_in(os.path.join(folder, part), ending, comment) for part, ending, comment in KINDS]
         cells.append(len(glob.glob(os.path.join(folder, "must-fail", "*.edit"))))
         if arguments:
-            cells += [checks.get(crate, 0), edits.get(crate, 0)]
+            cells += [checks[crate], edits.get(crate, 0)]
         total = [a + b for a, b in zip(total, cells)]
         row(["`%s`" % crate] + cells)
     row(["all"] + total)

@@ -21,6 +21,7 @@ from runs import ROOT, VECTOR_FILES, vectors
 MADE = os.path.join(ROOT, "target", "library_runs")
 # The crates whose static libraries are made: the one for users, and the one for the benchmark.
 LIBRARIES = ("export", "lookup_bench")
+EXPORTED = {"roognaps_load", "roognaps_answer", "roognaps_answer_from"}
 WARNINGS = ["-Wall", "-Wextra", "-Werror", "-pedantic", "-std=c11", "-g"]
 # Of the malformed vectors one of so many is run as a process of its own; all are replayed in one.
 MALFORMED_STEP = 10
@@ -42,7 +43,7 @@ def run(command, **options):
 
 
 def libraries():
-    """The folder of the static libraries; none if they can't be had here. Ends the run where making one fails."""
+    """The folder of the static libraries; none if the one for users can't be had here. Ends the run where making one fails."""
     folder = os.environ.get("EXPORT_LIB")
     if folder is None:
         folder = os.path.join(ROOT, "target", "staticlib")
@@ -52,7 +53,11 @@ def libraries():
                 print(made.stdout)
                 say(f"`rt staticlib {name}` failed")
                 sys.exit(1)
-    return folder if all(os.path.exists(os.path.join(folder, f"lib{name}.a")) for name in LIBRARIES) else None
+    return folder if has_library(folder, "export") else None
+
+
+def has_library(folder, name):
+    return os.path.exists(os.path.join(folder, f"lib{name}.a"))
 
 
 def steps_down(listing):
@@ -71,15 +76,26 @@ def steps_down(listing):
         lowered = int(found.group(1), 16) if found else None
 
 
-def large_frames(folder):
-    """The library touches each page of a frame: what makes too little stack an end of the process and nothing worse."""
+def compiled_library(folder):
+    """What the compiled library has: the exported functions, and frames."""
     if not shutil.which("objdump"):
-        say("objdump isn't at hand; the frames aren't looked at")
+        say("objdump isn't at hand; exported functions and frames aren't looked at")
         return True
-    listing = run(["objdump", "-d", os.path.join(folder, "libexport.a")], cwd=ROOT).stdout
-    if "<roognaps_answer>:" not in listing:
-        say("objdump doesn't show the library's functions")
-        return False
+    archive = os.path.join(folder, "libexport.a")
+    return exported_functions(run(["objdump", "-t", archive], cwd=ROOT).stdout) and large_frames(run(["objdump", "-d", archive], cwd=ROOT).stdout)
+
+
+def exported_functions(symbols):
+    """The library for users exports EXPORTED and nothing else: no function that is handed record words."""
+    found = {line.split()[-1] for line in symbols.splitlines() if re.match(r"[0-9a-f]+ g +F ", line)}
+    say(f"libexport.a exports {', '.join(sorted(found))}")
+    if found != EXPORTED:
+        say(f"owed are {', '.join(sorted(EXPORTED))}")
+    return found == EXPORTED
+
+
+def large_frames(listing):
+    """The library touches each page of a frame: what makes too little stack an end of the process and nothing worse."""
     pages = [(function, size, then) for function, size, then in steps_down(listing) if size >= PAGE]
     wrong = [f"{function} goes down {size} bytes, then {then}" for function, size, then in pages if size > PAGE or not TOUCHED.match(then)]
     wrong += [line.strip() for line in listing.splitlines() if OTHERWISE.search(line)]
@@ -267,11 +283,12 @@ def documented(*features):
     return cargo("the crate's documentation", *words, RUSTDOCFLAGS="-D warnings") is not None
 
 
-def linted():
+def linted(folder):
     if not at_hand("cargo", "clippy"):
         say("cargo clippy isn't at hand; the lint is left out")
         return True
-    packages = ["-p", "roognaps", "-p", "fuzz", "-p", "bench", "--features", "roognaps/export"]
+    bench = ["-p", "bench"] if has_library(folder, "lookup_bench") else []
+    packages = ["-p", "roognaps", "-p", "fuzz", *bench, "--features", "roognaps/export"]
     return cargo("the lint", "clippy", "--offline", *packages, "--all-targets", "--", "-D", "warnings") is not None
 
 
@@ -296,28 +313,35 @@ def fuzz_target():
     return counts is not None
 
 
-def rust_crate():
-    tested = tests("roognaps", "--features", "export") and tests("bench")
-    return tested and documented() and linted() and example("moved", "--example", "moved") and with_originals() and fuzz_target()
+def lookups(folder):
+    if not has_library(folder, "lookup_bench"):
+        say("liblookup_bench.a isn't there; the tests of the lookups are left out")
+        return True
+    return tests("bench")
+
+
+def rust_crate(folder):
+    tested = tests("roognaps", "--features", "export") and lookups(folder)
+    return tested and documented() and linted(folder) and example("moved", "--example", "moved") and with_originals() and fuzz_target()
 
 
 def main():
     os.makedirs(MADE, exist_ok=True)
     folder = libraries()
     if folder is None and "EXPORT_LIB" in os.environ:
-        say("EXPORT_LIB names a folder that doesn't have both libraries")
+        say("EXPORT_LIB names a folder that doesn't have libexport.a")
         return 1
     if folder is None:
-        say("the static libraries aren't there, and rt isn't at hand to make them; left out")
+        say("the static library isn't there, and rt isn't at hand to make it; left out")
         return 0
-    well = large_frames(folder)
+    well = compiled_library(folder)
     if shutil.which("cc"):
         well = example_in_c(folder) and well
         well = vectors_in_c(folder) and well
     else:
         say("cc isn't at hand; the C programs are left out")
     if shutil.which("cargo"):
-        well = rust_crate() and well
+        well = rust_crate(folder) and well
         if shutil.which("cc"):
             well = wrong_library() and well
     else:

@@ -35,7 +35,14 @@ def literal_of(numbers):
 
 
 def words_of(table):
-    return [table[at + 1 : at + 1 + table[at]] for at in range(0, len(table), CELL)]
+    """The words of a table's cells. Ends the run where the bytes aren't cells: a byte too many or too few shifts all behind it."""
+    words = []
+    for at in range(0, len(table), CELL):
+        cell = table[at : at + CELL]
+        words.append(cell[1 : 1 + cell[0]])
+        if not 1 <= cell[0] < CELL or cell != bytes([cell[0]]) + words[-1] + bytes(CELL - 1 - cell[0]) or len(set(words)) != len(words):
+            sys.exit("the cell %r behind the words %r of a table isn't a new word of 1 to 8 bytes with its length before it and zeros behind" % (cell, words[:-1]))
+    return words
 
 
 def hash_of(word, factors):
@@ -63,46 +70,60 @@ def collision(words, factors):
 
 
 def map_of(words, factors):
-    same = collision(words + COMING.get(words[0], []), factors)
-    if same:
-        sys.exit("%s and %s have the same hash; other factors: tools/word_maps.py --factors" % tuple(w.decode() for w in same))
     places = [0] * HASHES
     for place, word in enumerate(words):
         places[hash_of(word, factors)] = place
     return places
 
 
+def tables_in(text):
+    """The tables of a source that have a map behind them. Ends the run where one has none."""
+    found = [words_of(bytes_of(m[2])) for m in PAIR.finditer(text)]
+    begun = len(TABLE.findall(PAIR.sub(lambda m: m[1], text)))
+    if len(found) != begun:
+        sys.exit("%d tables, %d of them with a map behind" % (begun, len(found)))
+    return found
+
+
+def all_tables():
+    """The tables of all sources, each with the words that are to come."""
+    tables = []
+    for path in SOURCES:
+        with open(path, encoding="utf-8") as f:
+            tables += tables_in(f.read())
+    unknown = set(COMING) - {words[0] for words in tables}
+    if unknown:
+        sys.exit("no table begins with %s" % ", ".join(word.decode() for word in sorted(unknown)))
+    return [words + COMING.get(words[0], []) for words in tables]
+
+
 def written_anew(path, factors):
     """The source's text as it is, and with its maps made from its tables."""
     with open(path, encoding="utf-8") as f:
         text = f.read()
-    anew, pairs = PAIR.subn(lambda m: '%sb"%s"' % (m[1], literal_of(map_of(words_of(bytes_of(m[2])), factors))), text)
-    tables = len(TABLE.findall(PAIR.sub(lambda m: m[1], text)))
-    if pairs == 0 or pairs != tables:
-        sys.exit("%s: %d tables, %d of them with a map behind" % (os.path.relpath(path, ROOT), tables, pairs))
-    return text, anew
+    return text, PAIR.sub(lambda m: '%sb"%s"' % (m[1], literal_of(map_of(words_of(bytes_of(m[2])), factors))), text)
 
 
-def fitting_factors():
-    tables = []
-    for path in SOURCES:
-        with open(path, encoding="utf-8") as f:
-            tables += [words_of(bytes_of(m[2])) for m in PAIR.finditer(f.read())]
-    tables = [words + COMING.get(words[0], []) for words in tables]
+def fitting_factors(tables):
     numbers = range(1, 64)
     return [(a, b, c) for a in numbers for b in numbers for c in numbers if not any(collision(words, (a, b, c)) for words in tables)]
 
 
 def main():
-    if sys.argv[1:] == ["--factors"]:
-        for factors in fitting_factors():
-            print(*factors)
-        return
-    if sys.argv[1:] not in ([], ["--check"]):
+    if sys.argv[1:] not in ([], ["--check"], ["--factors"]):
         sys.exit(__doc__)
+    tables, factors = all_tables(), factors_of(DEFINITION)
+    if sys.argv[1:] == ["--factors"]:
+        for fitting in fitting_factors(tables):
+            print(*fitting)
+        return
+    for words in tables:
+        same = collision(words, factors)
+        if same:
+            sys.exit("%s and %s have the same hash; other factors: tools/word_maps.py --factors" % tuple(w.decode() for w in same))
     stale = []
     for path in SOURCES:
-        text, anew = written_anew(path, factors_of(DEFINITION))
+        text, anew = written_anew(path, factors)
         if text == anew:
             continue
         stale.append(os.path.relpath(path, ROOT))

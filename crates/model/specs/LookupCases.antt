@@ -139,7 +139,7 @@ at name s start end = record { name = name; scope = s; start = start; end = end 
 
 unfoldable pub position-cases : List (Case Use (Option ℕ))
 position-cases =
-    -- the last that begins at the use or before it; the earlier one; in the module's scope a struct from any position, and from the const on that
+    -- the last that begins at the use or before it; the earlier one; in the module's scope the struct from any position, and the const from its own start on
     at "a" 1 50 51 gives some 3
     ∷ at "a" 1 49 50 gives some 2
     ∷ at "a" 1 40 41 gives some 2

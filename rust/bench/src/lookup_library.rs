@@ -1,9 +1,6 @@
 //! The lookups over record words, and a `load` beside them: the static library of the proved crate
 //! `lookup_bench`, which is for this benchmark alone. (The library for users takes no record words.)
 
-/// Words of 32 bits in a record buffer.
-pub const RECORD_WORDS: usize = 16_384;
-
 /// A name by its place in the file.
 #[derive(Debug, Clone, Copy)]
 pub struct Name {
@@ -23,7 +20,9 @@ pub fn load(file: &[u8], words: &mut [u32]) -> u32 {
 /// that the index of the words doesn't have has nothing, whatever stands behind those that it has.
 #[derive(Clone, Copy)]
 pub struct Loaded<'a> {
+    /// The bytes, which the names are parts of.
     pub file: &'a [u8],
+    /// The words that [`load`] wrote.
     pub words: &'a [u32],
 }
 
@@ -150,7 +149,8 @@ unsafe extern "C" {
 
 #[cfg(test)]
 mod tests {
-    use super::{Loaded, Name, RECORD_WORDS, load};
+    use super::{Loaded, Name, load};
+    use roognaps::raw::RECORD_WORDS;
 
     /// `const x = 1; fn f(y: u32) { let y = x; y }` and a second module.
     const FILE: &str = "index\t1

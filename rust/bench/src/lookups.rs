@@ -9,8 +9,9 @@ use index_file::load::load;
 use index_file::records::Node;
 
 use crate::hash_maps::{FxHasher, Tables};
-use crate::lookup_library::{self, Loaded, Name, RECORD_WORDS};
+use crate::lookup_library::{self, Loaded, Name};
 use crate::timing::{Contender, medians};
+use roognaps::raw::RECORD_WORDS;
 
 /// What is asked: a name in a scope at a span, or an expression.
 struct Question<'f> {
