@@ -14,6 +14,7 @@ pub mod SamePrograms
 pub mod Secrecy
 pub mod ByQuestion
 pub mod LineFits
-pub mod Appended
-pub mod AppendedAgree
+pub mod BodyNumbers
+pub mod BodyTest
+pub mod PairTest
 pub mod SecrecyExamples

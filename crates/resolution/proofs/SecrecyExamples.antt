@@ -1,82 +1,29 @@
--- The premises of demand 3 are met: two pairs of files as text, of which the second has scopes nested three deep and deeper in its bodies, and
--- a question of each kind, at different places. Assumes nothing.
+-- The premises of demand 3 are met: pairs of files as text, each with a body of its own, and questions about the outside at a place in each. By the
+-- theorem each question has the same line in both files; what is printed stands beside it, by computation.
+--   `plain`: one body returns a number, the other defines a variable; a question of each kind.
+--   `deep`: bodies with scopes nested three deep and four deep, over two modules, with names of their own that are also outside.
+--   `between`: records inside stand between those outside by number: scopes, T, definitions and expressions.
+--   `moved`: the bodies stand in different modules.
+--   `ring`: the line that both have in common is a refusal.
+-- Last, files of which each lacks one premise: the test refuses them. Assumes nothing.
 use Prim.Native.Nat.{ℕ}
 use Prim.Native.String.{String}
 use mathlib.Core.Path.{_≡_, refl}
-use mathlib.Core.List.{List, [], _∷_}
+use mathlib.Core.Bool.{true, false}
+use mathlib.Core.List.{List, [], _∷_, map}
 use mathlib.Core.Option.{none, some}
-use lib.ListN.{take, drop}
 use Rattle.model.specs.Common.{tabs}
-use Rattle.model.specs.Records.{Module, Question}
-use Rattle.format.specs.FirstPass.{empty-module}
-use Rattle.format.specs.Load.{Loading, accepted, refused, load}
+use Rattle.model.specs.Records.{Question}
 use Rattle.format.specs.Computes.{loads}
 use Rattle.resolution.specs.Secrecy.{SameLine}
 use Rattle.resolution.specs.Resolve.{resolve}
 use Rattle.resolution.specs.Computes.{resolves}
-use Rattle.resolution.proofs.Appended.{BodyRecords, in-body, body-test, question-test}
-use Rattle.resolution.proofs.AppendedAgree.{Filling, IsFilled, files-agree}
-use Rattle.resolution.proofs.Secrecy.{demand-three}
+use Rattle.resolution.proofs.BodyTest.{BodyScopes, tests}
+use Rattle.resolution.proofs.PairTest.{Pair, index-in, file-test, Agreeing, pair-same}
 
--- ------------------------------------------------------------------ a file taken apart
-
--- how many scopes, T, definitions and expressions of the first module stand first: those are outside
-record Cut : Type 0 where
-  scopes : ℕ
-  types : ℕ
-  definitions : ℕ
-  expressions : ℕ
-
-abbrev modules-of : Loading → List Module
-modules-of (accepted index) = index .modules
-modules-of (refused number line) = []
-
-abbrev questions-of : Loading → List Question
-questions-of (accepted index) = index .questions
-questions-of (refused number line) = []
-
-abbrev first-of : List Module → Module
-first-of [] = empty-module []
-first-of (m ∷ ms) = m
-
-abbrev rest-of : List Module → List Module
-rest-of [] = []
-rest-of (m ∷ ms) = ms
-
-abbrev outside-of : Cut → Module → Module
-outside-of cut m =
-    record {
-      name = m .name;
-      scopes = take (cut .scopes) (m .scopes);
-      types = take (cut .types) (m .types);
-      definitions = take (cut .definitions) (m .definitions);
-      expressions = take (cut .expressions) (m .expressions);
-    }
-
-abbrev body-of : Cut → Module → BodyRecords
-body-of cut m =
-    record {
-      scopes = drop (cut .scopes) (m .scopes);
-      types = drop (cut .types) (m .types);
-      definitions = drop (cut .definitions) (m .definitions);
-      expressions = drop (cut .expressions) (m .expressions);
-    }
-
--- the records outside of a file, and its other modules
-unfoldable outside-in : Cut → String → Module
-outside-in cut file = outside-of cut (first-of (modules-of (load (tabs file))))
-
-unfoldable others-in : String → List Module
-others-in file = rest-of (modules-of (load (tabs file)))
-
--- a file's body, whose `function` scope has that number
-unfoldable filling : (cut : Cut) (outside : Module) → String → ℕ → Filling outside
-filling cut outside file scope =
-    record {
-      body = body-of cut (first-of (modules-of (load (tabs file))));
-      scope = scope;
-      questions = questions-of (load (tabs file));
-    }
+-- module, `function` scope, scopes inside
+abbrev body : ℕ → ℕ → List ℕ → BodyScopes
+body m s inside = record { body = record { module-number = m; scope-number = s }; inside = inside }
 
 -- ------------------------------------------------------------------ bodies that differ
 
@@ -89,47 +36,26 @@ unfoldable pub other-file : String
 other-file =
     "index→1\nM→main\nS→-→module\nS→0→function\nT→felt\nT→u32\nD→0→f→3→4→0→39→fn→0\nD→0→c→46→47→40→55→const→-→0\nD→1→d→21→22→17→27→let→1→1→-\nE→0→50→54→-→-→plain→-→-→bool\nE→1→25→26→1→1→plain→-→-→ident→c\nE→1→35→36→-→2→return→-→-→ident→d\nQ→def→0→0\nQ→type→0→0→0\nQ→expr→0→0→0\nQ→def→0→1\n"
 
--- one scope, one T, two definitions and one expression stand outside
-unfoldable plain-cut : Cut
-plain-cut = record { scopes = 1; types = 1; definitions = 2; expressions = 1 }
+unfoldable pub plain : Pair
+plain = record { first-file = one-file; second-file = other-file; first-body = body 0 1 (1 ∷ []); second-body = body 0 1 (1 ∷ []); types = (0, 0) ∷ [] }
 
-unfoldable plain : Module
-plain = outside-in plain-cut one-file
+plain-agreeing : Agreeing plain
+unfolding loads tests index-in file-test plain one-file other-file
+plain-agreeing = record { first-test = refl; second-test = refl; same = refl }
 
-one : Filling plain
-one = filling plain-cut plain one-file 1
-
-other : Filling plain
-other = filling plain-cut plain other-file 1
-
-one-filled : IsFilled 1 plain [] (tabs one-file) one
-unfolding loads one-file plain-cut plain outside-in filling body-test in-body one
-one-filled = record { loaded = refl; tested = refl }
-
-other-filled : IsFilled 1 plain [] (tabs other-file) other
-unfolding loads one-file other-file plain-cut plain outside-in filling body-test in-body other
-other-filled = record { loaded = refl; tested = refl }
-
--- by the theorem, one question of each kind: c at 0 and 3, its value with a context at 1 and 2, felt at 2 and 1
+-- one question of each kind: c at 0 and 3, its value with a context at 1 and 2, felt at 2 and 1
 pub c-same : SameLine (tabs one-file) (tabs other-file) 0 3
-unfolding loads one-file other-file plain-cut plain outside-in filling question-test one other
-c-same =
-    demand-three (tabs one-file) (tabs other-file) 0 3
-    (files-agree 1 plain [] (tabs one-file) (tabs other-file) one other one-filled other-filled (Question.def 0 1) 0 3 refl refl refl)
+unfolding loads tests index-in plain one-file other-file
+c-same = pair-same plain (Question.def 0 1) 0 3 plain-agreeing refl refl refl refl
 
 pub value-same : SameLine (tabs one-file) (tabs other-file) 1 2
-unfolding loads one-file other-file plain-cut plain outside-in filling question-test one other
-value-same =
-    demand-three (tabs one-file) (tabs other-file) 1 2
-    (files-agree 1 plain [] (tabs one-file) (tabs other-file) one other one-filled other-filled (Question.expr 0 0 (some 0)) 1 2 refl refl refl)
+unfolding loads tests index-in plain one-file other-file
+value-same = pair-same plain (Question.expr 0 0 (some 0)) 1 2 plain-agreeing refl refl refl refl
 
 pub felt-same : SameLine (tabs one-file) (tabs other-file) 2 1
-unfolding loads one-file other-file plain-cut plain outside-in filling question-test one other
-felt-same =
-    demand-three (tabs one-file) (tabs other-file) 2 1
-    (files-agree 1 plain [] (tabs one-file) (tabs other-file) one other one-filled other-filled (Question.type 0 0 0) 2 1 refl refl refl)
+unfolding loads tests index-in plain one-file other-file
+felt-same = pair-same plain (Question.type 0 0 0) 2 1 plain-agreeing refl refl refl refl
 
--- and by computation: what is printed
 pub one-printed : resolve (tabs one-file) ≡ tabs "def→0→1→type→bool\nexpr→0→0→type→bool\ntype→0→0→type→felt\n"
 unfolding resolves one-file
 one-printed = refl
@@ -150,46 +76,25 @@ unfoldable pub four-deep : String
 four-deep =
     "index→1\nM→main\nS→-→module\nS→0→function\nS→1→block\nS→2→block\nS→3→loop\nT→felt\nT→u32\nT→custom→P\nT→tuple→0→0\nD→0→P→7→8→0→20→struct→x→1\nD→0→f→24→25→21→90→fn→1→p→2\nD→0→c→97→98→91→110→const→-→0\nD→0→y→120→121→111→122→use→lib→k\nD→4→P→40→41→33→50→struct→z→0\nD→2→y→55→56→51→60→let→0→-→-\nD→3→c→66→67→60→70→let→-→4→-\nE→0→101→106→-→-→plain→-→-→bin→+→1→2\nE→0→101→102→-→-→plain→-→-→lit→-\nE→0→105→106→-→3→plain→-→-→ident→y\nE→4→72→76→-→-→plain→-→-→bool\nE→3→68→69→-→5→plain→-→-→ident→y\nM→lib\nS→-→module\nD→0→k→6→7→0→14→const→-→0\nE→0→10→14→-→-→plain→-→-→lit→u32\nQ→type→0→2→0\nQ→def→0→2\nQ→expr→0→4→-\nQ→expr→0→0→-\n"
 
-unfoldable deep-cut : Cut
-deep-cut = record { scopes = 1; types = 3; definitions = 4; expressions = 3 }
+unfoldable pub deep : Pair
+deep =
+    record { first-file = three-deep; second-file = four-deep; first-body = body 0 1 (1 ∷ 2 ∷ 3 ∷ []); second-body = body 0 1 (1 ∷ 2 ∷ 3 ∷ 4 ∷ []); types = (0, 1) ∷ (0, 2) ∷ [] }
 
-unfoldable deep : Module
-deep = outside-in deep-cut three-deep
-
-unfoldable libraries : List Module
-libraries = others-in three-deep
-
-three : Filling deep
-three = filling deep-cut deep three-deep 1
-
-four : Filling deep
-four = filling deep-cut deep four-deep 1
-
-three-filled : IsFilled 1 deep libraries (tabs three-deep) three
-unfolding loads three-deep deep-cut deep libraries outside-in others-in filling body-test in-body three
-three-filled = record { loaded = refl; tested = refl }
-
-four-filled : IsFilled 1 deep libraries (tabs four-deep) four
-unfolding loads three-deep four-deep deep-cut deep libraries outside-in others-in filling body-test in-body four
-four-filled = record { loaded = refl; tested = refl }
+deep-agreeing : Agreeing deep
+unfolding loads tests index-in file-test deep three-deep four-deep
+deep-agreeing = record { first-test = refl; second-test = refl; same = refl }
 
 pub deep-constant-same : SameLine (tabs three-deep) (tabs four-deep) 0 1
-unfolding loads three-deep four-deep deep-cut deep libraries outside-in filling question-test three four
-deep-constant-same =
-    demand-three (tabs three-deep) (tabs four-deep) 0 1
-    (files-agree 1 deep libraries (tabs three-deep) (tabs four-deep) three four three-filled four-filled (Question.def 0 2) 0 1 refl refl refl)
+unfolding loads tests index-in deep three-deep four-deep
+deep-constant-same = pair-same deep (Question.def 0 2) 0 1 deep-agreeing refl refl refl refl
 
 pub deep-sum-same : SameLine (tabs three-deep) (tabs four-deep) 1 3
-unfolding loads three-deep four-deep deep-cut deep libraries outside-in filling question-test three four
-deep-sum-same =
-    demand-three (tabs three-deep) (tabs four-deep) 1 3
-    (files-agree 1 deep libraries (tabs three-deep) (tabs four-deep) three four three-filled four-filled (Question.expr 0 0 none) 1 3 refl refl refl)
+unfolding loads tests index-in deep three-deep four-deep
+deep-sum-same = pair-same deep (Question.expr 0 0 none) 1 3 deep-agreeing refl refl refl refl
 
 pub deep-struct-same : SameLine (tabs three-deep) (tabs four-deep) 2 0
-unfolding loads three-deep four-deep deep-cut deep libraries outside-in filling question-test three four
-deep-struct-same =
-    demand-three (tabs three-deep) (tabs four-deep) 2 0
-    (files-agree 1 deep libraries (tabs three-deep) (tabs four-deep) three four three-filled four-filled (Question.type 0 2 0) 2 0 refl refl refl)
+unfolding loads tests index-in deep three-deep four-deep
+deep-struct-same = pair-same deep (Question.type 0 2 0) 2 0 deep-agreeing refl refl refl refl
 
 pub three-printed : resolve (tabs three-deep) ≡ tabs "def→0→2→type→u32\nexpr→0→0→type→u32\ntype→0→2→type→struct:0.0\n"
 unfolding resolves three-deep
@@ -198,3 +103,153 @@ three-printed = refl
 pub four-printed : resolve (tabs four-deep) ≡ tabs "type→0→2→type→struct:0.0\ndef→0→2→type→u32\nexpr→0→4→type→felt\nexpr→0→0→type→u32\n"
 unfolding resolves four-deep
 four-printed = refl
+
+-- ------------------------------------------------------------------ records inside between those outside
+
+-- functions f and g and a struct P; the body is f's. Outside are scopes 0 and 3, T 0 and 2, D 0, 2, 4 and 5, E 1 and 3. In the body a block has a P
+-- of its own
+unfoldable pub block-between : String
+block-between =
+    "index→1\nM→main\nS→-→module\nS→0→function\nS→1→block\nS→0→function\nT→felt\nT→u32\nT→custom→P\nD→0→f→3→4→0→60→fn→0\nD→1→a→20→21→16→30→let→1→-→-\nD→0→P→67→68→61→80→struct→x→0\nD→2→P→37→38→31→50→struct→y→1\nD→0→g→84→85→81→140→fn→0→p→2\nD→3→p→86→87→86→90→param→2\nE→1→52→53→-→-→return→-→-→lit→-\nE→3→110→111→-→5→plain→-→-→ident→p\nE→2→40→41→-→1→plain→-→-→ident→a\nE→3→110→113→-→-→return→-→-→member→1→x\nQ→expr→0→3→-\nQ→type→0→2→3\nQ→def→0→4\n"
+
+-- scope 2, T 1, D 1 and 3, E 0 and 2 are others, and behind the last outside there are more: a loop with a p, and a g, of its own
+unfoldable pub loop-between : String
+loop-between =
+    "index→1\nM→main\nS→-→module\nS→0→function\nS→1→loop\nS→0→function\nS→2→block\nT→felt\nT→ptr→0\nT→custom→P\nT→tuple→1→2\nD→0→f→3→4→0→60→fn→0\nD→1→g→20→21→16→30→param→3\nD→0→P→67→68→61→80→struct→x→0\nD→2→i→37→38→31→50→loop\nD→0→g→84→85→81→140→fn→0→p→2\nD→3→p→86→87→86→90→param→2\nD→4→p→44→45→40→50→let→-→4→-\nE→2→52→56→-→-→cond→-→-→bool\nE→3→110→111→-→5→plain→-→-→ident→p\nE→1→40→44→-→1→plain→-→-→ident→g\nE→3→110→113→-→-→return→-→-→member→1→x\nE→4→46→48→-→-→plain→-→-→tuple→2→0\nQ→def→0→4\nQ→expr→0→4→-\nQ→expr→0→3→-\nQ→type→0→2→3\n"
+
+unfoldable pub between : Pair
+between =
+    record { first-file = block-between; second-file = loop-between; first-body = body 0 1 (1 ∷ 2 ∷ []); second-body = body 0 1 (1 ∷ 2 ∷ 4 ∷ []); types = (0, 0) ∷ (0, 2) ∷ [] }
+
+between-agreeing : Agreeing between
+unfolding loads tests index-in file-test between block-between loop-between
+between-agreeing = record { first-test = refl; second-test = refl; same = refl }
+
+-- `p.x` in g, the type P in g's scope, and g
+pub between-member-same : SameLine (tabs block-between) (tabs loop-between) 0 2
+unfolding loads tests index-in between block-between loop-between
+between-member-same = pair-same between (Question.expr 0 3 none) 0 2 between-agreeing refl refl refl refl
+
+pub between-struct-same : SameLine (tabs block-between) (tabs loop-between) 1 3
+unfolding loads tests index-in between block-between loop-between
+between-struct-same = pair-same between (Question.type 0 2 3) 1 3 between-agreeing refl refl refl refl
+
+pub between-function-same : SameLine (tabs block-between) (tabs loop-between) 2 0
+unfolding loads tests index-in between block-between loop-between
+between-function-same = pair-same between (Question.def 0 4) 2 0 between-agreeing refl refl refl refl
+
+pub block-between-printed : resolve (tabs block-between) ≡ tabs "expr→0→3→type→felt\ntype→0→2→type→struct:0.2\ndef→0→4→type→fn:0.4\n"
+unfolding resolves block-between
+block-between-printed = refl
+
+pub loop-between-printed : resolve (tabs loop-between) ≡ tabs "def→0→4→type→fn:0.4\nexpr→0→4→type→((ptr(felt),struct:0.2),bool)\nexpr→0→3→type→felt\ntype→0→2→type→struct:0.2\n"
+unfolding resolves loop-between
+loop-between-printed = refl
+
+-- ------------------------------------------------------------------ bodies in different modules
+
+-- f in main with a body, g in lib without one; c in main is `lib.k`
+unfoldable pub body-in-main : String
+body-in-main =
+    "index→1\nM→main\nS→-→module\nS→0→function\nT→felt\nD→0→f→3→4→0→30→fn→0\nD→0→k→35→36→31→40→use→lib→k\nD→0→c→46→47→41→55→const→-→0\nE→0→50→51→-→1→plain→-→-→ident→k\nE→1→24→25→-→-→return→-→-→lit→-\nM→lib\nS→-→module\nT→u32\nD→0→g→3→4→0→30→fn→0\nD→0→k→37→38→31→50→const→0→-\nQ→def→0→2\nQ→def→1→0\n"
+
+-- f without a body, g with one, in which there is another k
+unfoldable pub body-in-lib : String
+body-in-lib =
+    "index→1\nM→main\nS→-→module\nT→felt\nD→0→f→3→4→0→30→fn→0\nD→0→k→35→36→31→40→use→lib→k\nD→0→c→46→47→41→55→const→-→0\nE→0→50→51→-→1→plain→-→-→ident→k\nM→lib\nS→-→module\nS→0→function\nT→u32\nT→felt\nD→0→g→3→4→0→30→fn→0\nD→0→k→37→38→31→50→const→0→-\nD→1→k→15→16→11→20→let→1→0→-\nE→1→18→19→-→-→plain→-→-→bool\nQ→def→1→0\nQ→def→0→2\n"
+
+unfoldable pub moved : Pair
+moved =
+    record { first-file = body-in-main; second-file = body-in-lib; first-body = body 0 1 (1 ∷ []); second-body = body 1 1 (1 ∷ []); types = (0, 0) ∷ (1, 0) ∷ [] }
+
+moved-agreeing : Agreeing moved
+unfolding loads tests index-in file-test moved body-in-main body-in-lib
+moved-agreeing = record { first-test = refl; second-test = refl; same = refl }
+
+pub moved-constant-same : SameLine (tabs body-in-main) (tabs body-in-lib) 0 1
+unfolding loads tests index-in moved body-in-main body-in-lib
+moved-constant-same = pair-same moved (Question.def 0 2) 0 1 moved-agreeing refl refl refl refl
+
+pub moved-function-same : SameLine (tabs body-in-main) (tabs body-in-lib) 1 0
+unfolding loads tests index-in moved body-in-main body-in-lib
+moved-function-same = pair-same moved (Question.def 1 0) 1 0 moved-agreeing refl refl refl refl
+
+pub body-in-main-printed : resolve (tabs body-in-main) ≡ tabs "def→0→2→type→u32\ndef→1→0→type→fn:1.0\n"
+unfolding resolves body-in-main
+body-in-main-printed = refl
+
+pub body-in-lib-printed : resolve (tabs body-in-lib) ≡ tabs "def→1→0→type→fn:1.0\ndef→0→2→type→u32\n"
+unfolding resolves body-in-lib
+body-in-lib-printed = refl
+
+-- ------------------------------------------------------------------ a refusal in common
+
+-- `const a = b; const b = a;` outside
+unfoldable pub ring-one : String
+ring-one =
+    "index→1\nM→main\nS→-→module\nS→0→function\nT→felt\nD→0→a→6→7→0→12→const→-→0\nD→0→b→19→20→13→25→const→-→1\nD→0→f→29→30→26→60→fn→0\nE→0→10→11→-→1→plain→-→-→ident→b\nE→0→23→24→-→0→plain→-→-→ident→a\nE→1→50→51→-→-→return→-→-→lit→-\nQ→def→0→0\nQ→def→0→2\n"
+
+-- the body has its own a, which is no ring
+unfoldable pub ring-other : String
+ring-other =
+    "index→1\nM→main\nS→-→module\nS→0→function\nT→felt\nD→0→a→6→7→0→12→const→-→0\nD→0→b→19→20→13→25→const→-→1\nD→0→f→29→30→26→60→fn→0\nD→1→a→44→45→40→50→let→0→2→-\nE→0→10→11→-→1→plain→-→-→ident→b\nE→0→23→24→-→0→plain→-→-→ident→a\nE→1→46→49→-→-→plain→-→-→bool\nE→1→55→56→-→3→return→-→-→ident→a\nQ→def→0→3\nQ→expr→0→3→-\nQ→def→0→0\n"
+
+unfoldable pub ring : Pair
+ring = record { first-file = ring-one; second-file = ring-other; first-body = body 0 1 (1 ∷ []); second-body = body 0 1 (1 ∷ []); types = (0, 0) ∷ [] }
+
+ring-agreeing : Agreeing ring
+unfolding loads tests index-in file-test ring ring-one ring-other
+ring-agreeing = record { first-test = refl; second-test = refl; same = refl }
+
+pub ring-same : SameLine (tabs ring-one) (tabs ring-other) 0 2
+unfolding loads tests index-in ring ring-one ring-other
+ring-same = pair-same ring (Question.def 0 0) 0 2 ring-agreeing refl refl refl refl
+
+pub ring-one-printed : resolve (tabs ring-one) ≡ tabs "def→0→0→refused→7\ndef→0→2→type→fn:0.2\n"
+unfolding resolves ring-one
+ring-one-printed = refl
+
+pub ring-other-printed : resolve (tabs ring-other) ≡ tabs "def→0→3→type→felt\nexpr→0→3→type→felt\ndef→0→0→refused→7\n"
+unfolding resolves ring-other
+ring-other-printed = refl
+
+-- ------------------------------------------------------------------ what the test refuses
+
+pub record Refused : Type 0 where
+  pub file : String
+  pub scopes : BodyScopes
+
+abbrev refused : String → BodyScopes → Refused
+refused file scopes = record { file = file; scopes = scopes }
+
+-- each lacks one of the premises, with no T listed
+unfoldable pub lacking : List Refused
+lacking =
+    -- the body's scope is a block
+    refused "index→1\nM→m\nS→-→module\nS→0→function\nS→1→block\n" (body 0 2 (2 ∷ []))
+    -- a scope below the body is not said to be inside; a scope is said to be inside and is not below
+    ∷ refused "index→1\nM→m\nS→-→module\nS→0→function\nS→1→block\n" (body 0 1 (1 ∷ []))
+    ∷ refused "index→1\nM→m\nS→-→module\nS→0→function\nS→0→function\n" (body 0 1 (1 ∷ 2 ∷ []))
+    -- an outside constant has its value inside
+    ∷ refused "index→1\nM→m\nS→-→module\nS→0→function\nD→0→c→0→1→0→1→const→-→0\nE→1→2→3→-→-→plain→-→-→bool\n" (body 0 1 (1 ∷ []))
+    -- an outside name records a definition inside
+    ∷ refused "index→1\nM→m\nS→-→module\nS→0→function\nD→1→i→0→1→0→1→loop\nE→0→2→3→-→0→plain→-→-→ident→i\n" (body 0 1 (1 ∷ []))
+    -- an outside expression has a child inside
+    ∷ refused "index→1\nM→m\nS→-→module\nS→0→function\nE→1→2→3→-→-→plain→-→-→bool\nE→0→1→4→-→-→plain→-→-→paren→0\n" (body 0 1 (1 ∷ []))
+    -- an outside number is an operand of a sum inside
+    ∷ refused "index→1\nM→m\nS→-→module\nS→0→function\nE→0→2→3→-→-→plain→-→-→lit→-\nE→1→2→5→-→-→plain→-→-→bin→+→0→0\n" (body 0 1 (1 ∷ []))
+    -- an outside definition names a T that is not listed; so does an outside expression
+    ∷ refused "index→1\nM→m\nS→-→module\nS→0→function\nT→felt\nD→0→f→0→1→0→1→fn→0\n" (body 0 1 (1 ∷ []))
+    ∷ refused "index→1\nM→m\nS→-→module\nS→0→function\nT→felt\nE→0→2→3→-→-→plain→-→-→cast→0\n" (body 0 1 (1 ∷ []))
+    -- loading refuses the file
+    ∷ refused "index→1\nM→m\nS→-→module\nS→1→function\n" (body 0 1 (1 ∷ []))
+    ∷ []
+
+pub lacking-refused : map (λ r. file-test (r .file) (r .scopes) []) lacking ≡ map (λ r. false) lacking
+unfolding loads tests index-in file-test lacking
+lacking-refused = refl
+
+-- the same without what is wrong passes
+pub nothing-lacking : file-test "index→1\nM→m\nS→-→module\nS→0→function\nS→1→block\n" (body 0 1 (1 ∷ 2 ∷ [])) [] ≡ true
+unfolding loads tests index-in file-test
+nothing-lacking = refl
