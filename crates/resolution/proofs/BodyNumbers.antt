@@ -6,7 +6,7 @@ use native.Mathlib.Nat.{le-refl}
 use native.Mathlib.Omega.{arith}
 use mathlib.Core.Path.{_≡_, refl, sym, _∙_, ap, subst}
 use mathlib.Core.Bool.{Bool, true, false}
-use mathlib.Core.Option.{none, some}
+use mathlib.Core.Option.{none}
 use lib.Dec.{ltb}
 use Rattle.model.specs.Common.{Text, let-some}
 use Rattle.model.specs.Records.{Question, Index}
@@ -16,7 +16,7 @@ use Rattle.model.specs.WellFormed.{Present, WellFormed}
 use Rattle.model.proofs.Tests.{ltb-lt, ltb-false, some-of}
 use Rattle.model.proofs.Places.{getElem-there, getElem-below}
 use Rattle.format.proofs.Loaded.{loaded-well-formed}
-use Rattle.resolution.specs.Inside.{Body, IsBody, Inside, body-scope, below, OutsideScope}
+use Rattle.resolution.specs.Inside.{Body, IsBody, Inside, body-scope, below}
 use Rattle.resolution.specs.Secrecy.{StandsIn, FilesSupposed}
 
 -- a scope inside has no lower number than the body's

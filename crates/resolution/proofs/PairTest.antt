@@ -19,7 +19,6 @@ use Rattle.resolution.specs.Secrecy.{StandsIn, Supposed, FilesSupposedAs
 use Rattle.resolution.proofs.BodyTest.{
   every,
   map-place-at,
-  when,
   shown,
   shown-in,
   when-some,

@@ -1,7 +1,6 @@
 -- The operator rows of the Rust ("24 binary and 3 unary rows, tried from the top"), from text to text, by computation: what `resolve` prints for
 -- operands of the types of each row, of every other pair of felt, bool and u32, and of a type that fits every row. The results are written
 -- here from `get_unary_op_signatures` and `get_binary_op_signatures` (type_resolution.rs), in their order. Assumes nothing.
-use Prim.Native.Nat.{ℕ}
 use Prim.Native.String.{String}
 use mathlib.Core.Path.{_≡_, refl}
 use mathlib.Core.Bool.{Bool, _&&_}
