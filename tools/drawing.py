@@ -12,7 +12,7 @@ import sys
 
 ROOT = os.path.join(os.path.dirname(os.path.abspath(__file__)), "..")
 DRAWING = os.path.join(ROOT, "docs", "crates.svg")
-DEFINITIONS = ("model", "format", "resolution", "oracle_sample")
+DEFINITIONS = ("model", "format", "resolution", "oracle_sample", "secrecy_examples")
 WIDE, HIGH, GAP_X, GAP_Y, EDGE = 118, 30, 22, 46, 20
 
 

@@ -17,4 +17,3 @@ pub mod LineFits
 pub mod BodyNumbers
 pub mod BodyTest
 pub mod PairTest
-pub mod SecrecyExamples

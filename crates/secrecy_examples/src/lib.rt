@@ -1,0 +1,1 @@
+// Pairs of files for demand 3, as theorems about the definition: no function.
