@@ -87,7 +87,7 @@ def compiled_library(folder):
 
 def exported_functions(symbols):
     """The library for users exports EXPORTED and nothing else: no function that is handed record words."""
-    found = {line.split()[-1] for line in symbols.splitlines() if re.match(r"[0-9a-f]+ g +F ", line)}
+    found = {line.split()[-1] for line in symbols.splitlines() if re.match(r"[0-9a-f]+ (?!l).{6}F (?!\*UND)", line)}
     say(f"libexport.a exports {', '.join(sorted(found))}")
     if found != EXPORTED:
         say(f"owed are {', '.join(sorted(EXPORTED))}")

@@ -20,8 +20,8 @@ SOURCES = [os.path.join(ROOT, "crates", crate, "src", "lib.rt") for crate in ("w
 CELL, HASHES = 9, 32
 STRING = r'b"((?:[^"\\]|\\.)*)"'
 PAIR = re.compile(r"(\n\s+" + STRING + r",\n\s+)" + STRING)
-# A call that is handed a table: its byte string stands on a line of its own, whether or not a map follows.
-TABLE = re.compile(r'\n\s+b"\\x0')
+# A table's first byte is a length, so its byte string begins like this, wherever it stands and whether or not a map follows.
+TABLE = re.compile(r'b"\\x0[1-8]')
 # Words that the change requests still to land add, by the first word of their table.
 COMING = {b"expr": [b"at", b"all", b"order", b"strict", b"shape"]}
 
@@ -76,21 +76,20 @@ def map_of(words, factors):
     return places
 
 
-def tables_in(text):
-    """The tables of a source that have a map behind them. Ends the run where one has none."""
+def tables_in(path):
+    """The tables of a source, which have a map each on the line behind. Ends the run where one has none."""
+    with open(path, encoding="utf-8") as f:
+        text = f.read()
     found = [words_of(bytes_of(m[2])) for m in PAIR.finditer(text)]
     begun = len(TABLE.findall(PAIR.sub(lambda m: m[1], text)))
     if len(found) != begun:
-        sys.exit("%d tables, %d of them with a map behind" % (begun, len(found)))
+        sys.exit("%s: %d tables, %d of them with a map on the line behind" % (os.path.relpath(path, ROOT), begun, len(found)))
     return found
 
 
 def all_tables():
     """The tables of all sources, each with the words that are to come."""
-    tables = []
-    for path in SOURCES:
-        with open(path, encoding="utf-8") as f:
-            tables += tables_in(f.read())
+    tables = [words for path in SOURCES for words in tables_in(path)]
     unknown = set(COMING) - {words[0] for words in tables}
     if unknown:
         sys.exit("no table begins with %s" % ", ".join(word.decode() for word in sorted(unknown)))

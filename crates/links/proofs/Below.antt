@@ -5,6 +5,7 @@ use Prim.Native.Nat.{ℕ, zero, suc, _+_, _-_, _≤_, _<_}
 use mathlib.Core.List.{List, [], _∷_, _++_}
 use mathlib.Core.Option.{Option}
 use lib.Dec.{ltb}
+use Rattle.model.specs.Common.{every}
 use Rattle.model.specs.Links.{link, links, field-types}
 use Rattle.format.specs.LinkCheck.{all-below}
 use Rattle.records.specs.Layout.{each, item-value, numbers-at, links-at, names-with-types-at, link-by}
@@ -70,10 +71,6 @@ bound-same ks n k e = ap (λ n. all-below n ks) e
 
 -- ------------------------------------------------------------------ every element of a list
 
-unfoldable pub every : {A : Type 0} → (A → Bool) → List A → Bool
-every test [] = true
-every test (x ∷ xs) = test x && every test xs
-
 -- the rows from i on
 unfoldable pub every-from : {A : Type 0} → (A → Bool) → (ℕ → A) → ℕ → ℕ → ℕ → Bool
 every-from test row from count i = every test (each row (from + i) (count - i))
@@ -84,7 +81,7 @@ module _ {A : Type 0} (test : A → Bool) (row : ℕ → A) (from count : ℕ) w
   every-begin = ap (every test) (each-begun row from count)
 
   every-turn : (i : ℕ) → i < count → every-from test row from count i ≡ (test (row (from + i)) && every-from test row from count (i + 1))
-  unfolding every-from every
+  unfolding every-from
   every-turn i h = ap (every test) (each-unroll row from count i h)
 
   pub every-stop : (i : ℕ) (b : Bool) → i < count → b ≡ test (row (from + i)) → b ≡ false → every-from test row from count i ≡ false
@@ -95,19 +92,19 @@ module _ {A : Type 0} (test : A → Bool) (row : ℕ → A) (from count : ℕ) w
   every-go i b h is e = every-turn i h ∙ sym (and-go b (test (row (from + i))) (every-from test row from count (i + 1)) is _ e refl)
 
   pub every-end : (i : ℕ) → count ≤ i → every-from test row from count i ≡ true
-  unfolding every-from every
+  unfolding every-from
   every-end i h = ap (every test) (each-ended row from count i h)
 
 -- ------------------------------------------------------------------ the lists of a row
 
 module _ (n : ℕ) where
   numbers-every : (ks : List ℕ) → all-below n ks ≡ every (λ k. ltb k n) ks
-  unfolding all-below every
+  unfolding all-below
   numbers-every [] = refl
   numbers-every (k ∷ ks) = sym (below-first n k ks) ∙ ap (λ r. ltb k n && r) (numbers-every ks)
 
   links-every : (os : List (Option ℕ)) → all-below n (links os) ≡ every (λ o. all-below n (link o)) os
-  unfolding all-below every
+  unfolding all-below
   links-every [] = refl
   links-every (o ∷ os) = sym (below-append n (link o) (links os)) ∙ ap (λ r. all-below n (link o) && r) (links-every os)
 

@@ -2,7 +2,7 @@
 use Prim.Native.Nat.{ℕ, zero, suc, _+_}
 use Prim.Native.Char.{code}
 use Prim.Native.String.{String, [] as nil, _∷_ as _then_}
-use mathlib.Core.Bool.{Bool, true, false, _||_}
+use mathlib.Core.Bool.{Bool, true, false, _&&_, _||_}
 use mathlib.Core.List.{List, [], _∷_}
 use mathlib.Core.Option.{Option, none, some}
 use lib.Dec.{eqb}
@@ -58,6 +58,11 @@ last test (x ∷ xs) = or-else (next (last test xs)) (if test x then some zero e
 unfoldable pub any : {A : Type 0} → (A → Bool) → List A → Bool
 any test [] = false
 any test (x ∷ xs) = test x || any test xs
+
+-- each element of the list passes
+abbrev pub every : {A : Type 0} → (A → Bool) → List A → Bool
+every test [] = true
+every test (x ∷ xs) = test x && every test xs
 
 -- the sum of a count over a list
 unfoldable pub total : {A : Type 0} → (A → ℕ) → List A → ℕ

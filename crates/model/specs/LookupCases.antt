@@ -44,10 +44,11 @@ Holds f cases = map (λ c. f (c .question)) cases ≡ map (λ c. c .answer) case
 abbrev scope : Option ℕ → ScopeKind → Scope
 scope parent kind = record { parent = parent; kind = kind }
 
--- scope, name, start and end of the whole, kind
+-- scope, name, start and end of the whole, kind. The name stands at the end, so that a test that reads its place differs from one that reads the
+-- whole's start
 abbrev define : ℕ → String → ℕ → ℕ → DefinitionKind → Definition
 define s name start end kind =
-    record { scope = s; name = bytes name; name-start = start; name-end = start; full-start = start; full-end = end; kind = kind }
+    record { scope = s; name = bytes name; name-start = end; name-end = end; full-start = start; full-end = end; kind = kind }
 
 -- scope, start, end, recorded definition
 abbrev identifier : ℕ → ℕ → ℕ → Option ℕ → ExpressionInfo
@@ -59,7 +60,7 @@ abbrev scopes : List Scope
 scopes = scope none ScopeKind.ModuleScope ∷ scope (some 0) ScopeKind.FunctionScope ∷ scope (some 1) ScopeKind.BlockScope ∷ scope (some 0) ScopeKind.FunctionScope ∷ []
 
 -- `a` is defined twice in the module's scope and twice in the function's. The values of the `let` a (D 3) and of the `const` c (D 6) are E 0 and E 1;
--- the `let` v (D 9) is taken from E 3
+-- the `let`s v (D 9) and w (D 10) are taken from E 3, and w has it as its value too, as the Rust's builder makes it
 unfoldable pub names : Module
 names =
     record {
@@ -77,6 +78,7 @@ names =
           ∷ define 0 "u" 230 240 (DefinitionKind.Use (bytes "other") (bytes "u"))
           ∷ define 0 "g" 250 290 (DefinitionKind.Function 0 [])
           ∷ define 3 "v" 260 280 (DefinitionKind.Let none none (some 3) [])
+          ∷ define 3 "w" 262 280 (DefinitionKind.Let none (some 3) (some 3) [])
           ∷ [];
       expressions = identifier 1 55 58 (some 2) ∷ identifier 0 210 211 (some 6) ∷ identifier 1 70 71 none ∷ identifier 3 265 270 none ∷ [];
     }
@@ -152,10 +154,13 @@ position-cases =
     ∷ at "a" 1 56 57 gives some 2
     ∷ at "a" 1 54 58 gives some 3
     ∷ at "a" 1 55 59 gives some 3
-    -- a const is visible in its own value, and a let with a destructured value in that
+    -- a const is visible in its own value, and so is a let in what it is taken from, unless that is its value too
     ∷ at "c" 0 210 211 gives some 6
     ∷ at "v" 3 265 270 gives some 9
-    -- a function, a `use` and a struct may stand behind their use; a const, a let, a parameter and a loop variable may not
+    ∷ at "w" 3 265 270 gives none
+    ∷ at "w" 3 271 272 gives some 10
+    -- a function, a `use` and a struct may stand behind their use; a const, a let, a parameter and a loop variable may not (struct and parameter:
+    -- above)
     ∷ at "f" 0 0 1 gives some 1
     ∷ at "u" 0 0 1 gives some 7
     ∷ at "c" 0 199 200 gives none
@@ -230,7 +235,7 @@ pub function-holds : Holds (first-function-around functions) function-cases
 unfolding looks-up functions function-cases
 function-holds = refl
 
--- the first scope without a parent. (Loading takes no file with a root behind another scope, with two roots or without scopes)
+-- the first scope without a parent. (Loading takes no module with a root behind another scope, with two roots or without scopes)
 unfoldable pub root-cases : List (Case (List (Option ℕ)) (Option ℕ))
 root-cases = (none ∷ some 0 ∷ []) gives some 0 ∷ (some 1 ∷ none ∷ none ∷ []) gives some 1 ∷ [] gives none ∷ []
 

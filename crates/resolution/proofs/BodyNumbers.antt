@@ -1,6 +1,6 @@
 -- Two files that meet what demand 3 supposes, with bodies in one module: the two bodies have the same number. A scope below a body has a higher
 -- number, and each scope outside stands in both under its number; so the body's is the first number that is not outside, in either. (The bodies
--- may stand in different modules: `moved` of the crate secrecy_examples.) Assumes nothing.
+-- may stand in different modules, under different numbers: `moved` of the crate secrecy_examples.) Assumes nothing.
 use Prim.Native.Nat.{ℕ, _≤_, _<_}
 use native.Mathlib.Nat.{le-refl}
 use native.Mathlib.Omega.{arith}

@@ -8,7 +8,7 @@ use mathlib.Core.List.{List, [], _∷_, _++_, List·Memᴰ, List·Memᴰ·head, 
 use mathlib.Core.Option.{Option, none, some}
 use lib.Dec.{eqb}
 use lib.ListN.{getElem?}
-use Rattle.model.specs.Common.{if_then_else_, let-some, any}
+use Rattle.model.specs.Common.{if_then_else_, let-some, any, every}
 use Rattle.model.specs.Records.{Name, ScopeKind, Scope, TypeExpr, Definition, Expression, ExpressionInfo, Module, Question, Index}
 use Rattle.model.specs.Lookups.{module-at, scope-at, parent, chain-from, scope-chain, among}
 use Rattle.model.specs.Links.{scope-in, type-in, definition-in, expression-in, link, type-types, definition-types, definition-expressions, expression-types, expression-definitions, expression-expressions, question-module, question-types}
@@ -19,11 +19,6 @@ use Rattle.resolution.specs.Inside.{Body, IsBody, Inside, body-scope, be
 use Rattle.resolution.specs.Secrecy.{NoOutsideLiteralInBinary}
 
 -- ------------------------------------------------------------------ lists
-
--- the test passes at each of the list
-abbrev pub every : {A : Type 0} → (A → Bool) → List A → Bool
-every test [] = true
-every test (x ∷ xs) = test x && every test xs
 
 every-of : {A : Type 0} (test : A → Bool) (xs : List A) (x : A) → every test xs ≡ true → List·Memᴰ x xs → test x ≡ true
 every-of test (y ∷ ys) x h (List·Memᴰ·head e) = ap test e ∙ and-left (test y) (every test ys) h
@@ -212,7 +207,7 @@ outside-module b types m the-module =
 unfoldable pub outside-of : Index → BodyScopes → Types → Outside
 outside-of index b types = record { version = index .version; modules = map-place (outside-module b types) (index .modules) }
 
-module _ (index : Index) (b : BodyScopes) where
+module _ (index : Index) where
   -- the test passes at each T, at each definition, at each expression: it is given the module's number, and a T's own
   abbrev every-type : (ℕ → ℕ → TypeExpr → Bool) → Bool
   every-type test = every-place (λ m the-module. every-place (test m) (the-module .types)) (index .modules)
@@ -223,6 +218,7 @@ module _ (index : Index) (b : BodyScopes) where
   abbrev every-expression : (ℕ → ExpressionInfo → Bool) → Bool
   every-expression test = every-place (λ m the-module. every (test m) (the-module .expressions)) (index .modules)
 
+module _ (index : Index) (b : BodyScopes) where
   -- not inside, where it stands in the index at all
   abbrev definition-out : ℕ → ℕ → Bool
   definition-out m d = let-some (definition-in index m d) true λ x. not (in-body b m (x .scope))
@@ -248,27 +244,27 @@ module _ (index : Index) (b : BodyScopes) where
 
   -- `NothingLinksInside`
   unfoldable pub values-test : Bool
-  values-test = every-definition λ m x. in-body b m (x .scope) || every (expression-out m) (definition-expressions (x .kind))
+  values-test = every-definition index λ m x. in-body b m (x .scope) || every (expression-out m) (definition-expressions (x .kind))
 
   unfoldable pub recorded-test : Bool
-  recorded-test = every-expression λ m x. in-body b m (x .scope) || every (definition-out m) (expression-definitions x)
+  recorded-test = every-expression index λ m x. in-body b m (x .scope) || every (definition-out m) (expression-definitions x)
 
   unfoldable pub children-test : Bool
-  children-test = every-expression λ m x. in-body b m (x .scope) || every (expression-out m) (expression-expressions x)
+  children-test = every-expression index λ m x. in-body b m (x .scope) || every (expression-out m) (expression-expressions x)
 
   -- `NoOutsideLiteralInBinary`
   unfoldable pub literals-test : Bool
-  literals-test = every-expression λ m x. not (in-body b m (x .scope)) || every (no-literal m) (operands (x .node))
+  literals-test = every-expression index λ m x. not (in-body b m (x .scope)) || every (no-literal m) (operands (x .node))
 
   -- what an outside D, an outside E or a listed T names is listed
   unfoldable pub definition-types-test : Types → Bool
-  definition-types-test types = every-definition λ m x. in-body b m (x .scope) || every (listed types m) (definition-types (x .kind))
+  definition-types-test types = every-definition index λ m x. in-body b m (x .scope) || every (listed types m) (definition-types (x .kind))
 
   unfoldable pub expression-types-test : Types → Bool
-  expression-types-test types = every-expression λ m x. in-body b m (x .scope) || every (listed types m) (expression-types x)
+  expression-types-test types = every-expression index λ m x. in-body b m (x .scope) || every (listed types m) (expression-types x)
 
   unfoldable pub type-types-test : Types → Bool
-  type-types-test types = every-type λ m t type. not (listed types m t) || every (listed types m) (type-types type)
+  type-types-test types = every-type index λ m t type. not (listed types m t) || every (listed types m) (type-types type)
 
   -- all of them
   unfoldable pub body-test : Types → Bool
@@ -463,30 +459,30 @@ module _ (index : Index) (b : BodyScopes) (types : Types) (good : Tested index b
 
   -- ---------------------------------------------------------------- each record
 
-  definition-tested : (test : ℕ → Definition → Bool) → every-definition index b test ≡ true → (m d : ℕ) (x : Definition) → definition-in index m d ≡ some x → test m x ≡ true
+  definition-tested : (test : ℕ → Definition → Bool) → every-definition index test ≡ true → (m d : ℕ) (x : Definition) → definition-in index m d ≡ some x → test m x ≡ true
   definition-tested test h m d x found =
       let (the-module, at, there) = some-of (module-at index m) (λ n. getElem? (n .definitions) d) x found in
       every-at (test m) (the-module .definitions) d x (every-place-at (λ k n. every (test k) (n .definitions)) (index .modules) m the-module h at) there
 
-  expression-tested : (test : ℕ → ExpressionInfo → Bool) → every-expression index b test ≡ true → (m e : ℕ) (x : ExpressionInfo) → expression-in index m e ≡ some x → test m x ≡ true
+  expression-tested : (test : ℕ → ExpressionInfo → Bool) → every-expression index test ≡ true → (m e : ℕ) (x : ExpressionInfo) → expression-in index m e ≡ some x → test m x ≡ true
   expression-tested test h m e x found =
       let (the-module, at, there) = some-of (module-at index m) (λ n. getElem? (n .expressions) e) x found in
       every-at (test m) (the-module .expressions) e x (every-place-at (λ k n. every (test k) (n .expressions)) (index .modules) m the-module h at) there
 
-  type-tested : (test : ℕ → ℕ → TypeExpr → Bool) → every-type index b test ≡ true → (m t : ℕ) (x : TypeExpr) → type-in index m t ≡ some x → test m t x ≡ true
+  type-tested : (test : ℕ → ℕ → TypeExpr → Bool) → every-type index test ≡ true → (m t : ℕ) (x : TypeExpr) → type-in index m t ≡ some x → test m t x ≡ true
   type-tested test h m t x found =
       let (the-module, at, there) = some-of (module-at index m) (λ n. getElem? (n .types) t) x found in
       every-place-at (test m) (the-module .types) t x (every-place-at (λ k n. every-place (test k) (n .types)) (index .modules) m the-module h at) there
 
   -- a test of the outside ones, at one that is outside
-  outside-definition-tested : (test : ℕ → Definition → Bool) → every-definition index b (λ m x. in-body b m (x .scope) || test m x) ≡ true
+  outside-definition-tested : (test : ℕ → Definition → Bool) → every-definition index (λ m x. in-body b m (x .scope) || test m x) ≡ true
       → (m d : ℕ) (outside : OutsideDefinition index (b .body) m d) → test m (outside .definition) ≡ true
   outside-definition-tested test h m d outside =
       or-of (in-body b m (outside .definition .scope)) (test m (outside .definition))
       (definition-tested (λ k x. in-body b k (x .scope) || test k x) h m d (outside .definition) (outside .found))
       (outside-false m (outside .definition .scope) (outside .not-inside))
 
-  outside-expression-tested : (test : ℕ → ExpressionInfo → Bool) → every-expression index b (λ m x. in-body b m (x .scope) || test m x) ≡ true
+  outside-expression-tested : (test : ℕ → ExpressionInfo → Bool) → every-expression index (λ m x. in-body b m (x .scope) || test m x) ≡ true
       → (m e : ℕ) (outside : OutsideExpression index (b .body) m e) → test m (outside .expression) ≡ true
   outside-expression-tested test h m e outside =
       or-of (in-body b m (outside .expression .scope)) (test m (outside .expression))

@@ -7,7 +7,7 @@ use mathlib.Core.Bool.{Bool, true, false, not, _&&_, false≢true}
 use mathlib.Core.List.{List, []}
 use mathlib.Core.Option.{Option, none, some}
 use lib.ListN.{getElem?}
-use Rattle.model.specs.Common.{let-some, tabs}
+use Rattle.model.specs.Common.{let-some, tabs, every}
 use Rattle.model.specs.Records.{Name, TypeExpr, Module, Question, Index}
 use Rattle.model.specs.Lookups.{module-at}
 use Rattle.model.specs.Links.{module-name, scope-in, type-in, definition-in, expression-in, question-module, question-types}
@@ -17,7 +17,6 @@ use Rattle.format.proofs.Loaded.{loaded-well-formed}
 use Rattle.resolution.specs.Inside.{Inside, OutsideScope, OutsideDefinition, OutsideExpression, OutsideType, definition-names, expression-names, type-names, question-names}
 use Rattle.resolution.specs.Secrecy.{StandsIn, Supposed, FilesSupposedAsWorded, SameLine}
 use Rattle.resolution.proofs.BodyTest.{
-  every,
   map-place-at,
   shown,
   shown-in,
@@ -161,7 +160,7 @@ accepted-is : (loading : Loading) → is-accepted loading ≡ true → loading �
 accepted-is (accepted index) h = refl
 accepted-is (refused number line) h = absurd (false≢true h)
 
--- two files with a body in each, and the T that count as outside
+-- two files with a body in each, and a list of T with all that count as outside among them
 pub record Pair : Type 0 where
   pub first-file : String
   pub second-file : String

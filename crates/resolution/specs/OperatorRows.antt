@@ -87,9 +87,9 @@ binary-operators =
     "+" ∷ "-" ∷ "*" ∷ "/" ∷ "%" ∷ "==" ∷ "!=" ∷ "<" ∷ ">" ∷ "<=" ∷ ">=" ∷ "&&" ∷ "||" ∷ "&" ∷ "|" ∷ "^" ∷ []
 
 -- each of the list, one list behind the other
-abbrev every-of : {A B : Type 0} → List A → (A → List B) → List B
-every-of [] f = []
-every-of (x ∷ xs) f = f x ++ every-of xs f
+abbrev for-each : {A B : Type 0} → List A → (A → List B) → List B
+for-each [] f = []
+for-each (x ∷ xs) f = f x ++ for-each xs f
 
 -- the row has the same node and the same operands
 abbrev same-operands : OperatorRow → OperatorRow → Bool
@@ -103,11 +103,11 @@ without rows (row ∷ more) = if any (same-operands row) rows then without rows 
 
 -- error for every operator with operands of felt, bool and u32 that are in no row above
 unfoldable pub other-unary-rows : List OperatorRow
-other-unary-rows = without unary-rows (every-of unary-operators λ op. every-of types λ operand. unary op operand "error" ∷ [])
+other-unary-rows = without unary-rows (for-each unary-operators λ op. for-each types λ operand. unary op operand "error" ∷ [])
 
 unfoldable pub other-binary-rows : List OperatorRow
 other-binary-rows =
-    without binary-rows (every-of binary-operators λ op. every-of types λ left. every-of types λ right. binary op left right "error" ∷ [])
+    without binary-rows (for-each binary-operators λ op. for-each types λ left. for-each types λ right. binary op left right "error" ∷ [])
 
 pub other-operands-printed : RowsPrinted (other-unary-rows ++ other-binary-rows)
 unfolding resolves row-file row-line unary-rows binary-rows other-unary-rows other-binary-rows

@@ -3,13 +3,14 @@
 --   `plain`: one body returns a number, the other defines a variable; a question of each kind.
 --   `deep`: bodies with scopes nested three deep and four deep, over two modules, with names of their own that are also outside.
 --   `between`: records inside stand between those outside by number: scopes, T, definitions and expressions.
---   `moved`: the bodies stand in different modules.
+--   `moved`: the bodies stand in different modules, under different numbers.
 --   `ring`: the line that both have in common is a refusal.
--- Last, files of which each lacks one premise: the test refuses them. Assumes nothing.
+-- Last, what the tests refuse: files of which each lacks one premise, and questions that are not about the outside. (Two files that differ outside have no
+-- proof of `same`; that is not shown.) Assumes nothing.
 use Prim.Native.Nat.{ℕ}
 use Prim.Native.String.{String}
 use mathlib.Core.Path.{_≡_, refl}
-use mathlib.Core.Bool.{true, false}
+use mathlib.Core.Bool.{Bool, true, false}
 use mathlib.Core.List.{List, [], _∷_, map}
 use mathlib.Core.Option.{none, some}
 use Rattle.model.specs.Common.{tabs}
@@ -18,7 +19,7 @@ use Rattle.format.specs.Computes.{loads}
 use Rattle.resolution.specs.Secrecy.{SameLine}
 use Rattle.resolution.specs.Resolve.{resolve}
 use Rattle.resolution.specs.Computes.{resolves}
-use Rattle.resolution.proofs.BodyTest.{BodyScopes, tests}
+use Rattle.resolution.proofs.BodyTest.{BodyScopes, Types, question-test, tests}
 use Rattle.resolution.proofs.PairTest.{Pair, index-in, file-test, Agreeing, pair-same}
 
 -- module, `function` scope, scopes inside
@@ -27,7 +28,7 @@ body m s inside = record { body = record { module-number = m; scope-number = s }
 
 -- ------------------------------------------------------------------ bodies that differ
 
--- `fn f() -> felt { return 1; } const c = true;`, and then `{ let d = c; return d; }`
+-- `fn f() -> felt { return 1; } const c = true;`, and then `{ let d: u32 = c; return d; }`
 unfoldable pub one-file : String
 one-file =
     "index→1\nM→main\nS→-→module\nS→0→function\nT→felt\nD→0→f→3→4→0→39→fn→0\nD→0→c→46→47→40→55→const→-→0\nE→0→50→54→-→-→plain→-→-→bool\nE→1→24→25→-→-→return→-→-→lit→-\nQ→def→0→1\nQ→expr→0→0→0\nQ→type→0→0→0\n"
@@ -112,7 +113,7 @@ unfoldable pub block-between : String
 block-between =
     "index→1\nM→main\nS→-→module\nS→0→function\nS→1→block\nS→0→function\nT→felt\nT→u32\nT→custom→P\nD→0→f→3→4→0→60→fn→0\nD→1→a→20→21→16→30→let→1→-→-\nD→0→P→67→68→61→80→struct→x→0\nD→2→P→37→38→31→50→struct→y→1\nD→0→g→84→85→81→140→fn→0→p→2\nD→3→p→86→87→86→90→param→2\nE→1→52→53→-→-→return→-→-→lit→-\nE→3→110→111→-→5→plain→-→-→ident→p\nE→2→40→41→-→1→plain→-→-→ident→a\nE→3→110→113→-→-→return→-→-→member→1→x\nQ→expr→0→3→-\nQ→type→0→2→3\nQ→def→0→4\n"
 
--- scope 2, T 1, D 1 and 3, E 0 and 2 are others, and behind the last outside there are more: a loop with a p, and a g, of its own
+-- scope 2, T 1, D 1 and 3, E 0 and 2 are others, and behind the last outside stand scope 4, T 3, D 6 and E 4. The body has a g and a p of its own
 unfoldable pub loop-between : String
 loop-between =
     "index→1\nM→main\nS→-→module\nS→0→function\nS→1→loop\nS→0→function\nS→2→block\nT→felt\nT→ptr→0\nT→custom→P\nT→tuple→1→2\nD→0→f→3→4→0→60→fn→0\nD→1→g→20→21→16→30→param→3\nD→0→P→67→68→61→80→struct→x→0\nD→2→i→37→38→31→50→loop\nD→0→g→84→85→81→140→fn→0→p→2\nD→3→p→86→87→86→90→param→2\nD→4→p→44→45→40→50→let→-→4→-\nE→2→52→56→-→-→cond→-→-→bool\nE→3→110→111→-→5→plain→-→-→ident→p\nE→1→40→44→-→1→plain→-→-→ident→g\nE→3→110→113→-→-→return→-→-→member→1→x\nE→4→46→48→-→-→plain→-→-→tuple→2→0\nQ→def→0→4\nQ→expr→0→4→-\nQ→expr→0→3→-\nQ→type→0→2→3\n"
@@ -151,16 +152,16 @@ loop-between-printed = refl
 -- f in main with a body, g in lib without one; c in main is `lib.k`
 unfoldable pub body-in-main : String
 body-in-main =
-    "index→1\nM→main\nS→-→module\nS→0→function\nT→felt\nD→0→f→3→4→0→30→fn→0\nD→0→k→35→36→31→40→use→lib→k\nD→0→c→46→47→41→55→const→-→0\nE→0→50→51→-→1→plain→-→-→ident→k\nE→1→24→25→-→-→return→-→-→lit→-\nM→lib\nS→-→module\nT→u32\nD→0→g→3→4→0→30→fn→0\nD→0→k→37→38→31→50→const→0→-\nQ→def→0→2\nQ→def→1→0\n"
+    "index→1\nM→main\nS→-→module\nS→0→function\nT→felt\nD→0→f→3→4→0→30→fn→0\nD→0→k→35→36→31→40→use→lib→k\nD→0→c→46→47→41→55→const→-→0\nE→0→50→51→-→1→plain→-→-→ident→k\nE→1→24→25→-→-→return→-→-→lit→-\nM→lib\nS→-→module\nS→0→function\nT→u32\nD→0→g→3→4→0→30→fn→0\nD→0→k→37→38→31→50→const→0→-\nQ→def→0→2\nQ→def→1→0\n"
 
 -- f without a body, g with one, in which there is another k
 unfoldable pub body-in-lib : String
 body-in-lib =
-    "index→1\nM→main\nS→-→module\nT→felt\nD→0→f→3→4→0→30→fn→0\nD→0→k→35→36→31→40→use→lib→k\nD→0→c→46→47→41→55→const→-→0\nE→0→50→51→-→1→plain→-→-→ident→k\nM→lib\nS→-→module\nS→0→function\nT→u32\nT→felt\nD→0→g→3→4→0→30→fn→0\nD→0→k→37→38→31→50→const→0→-\nD→1→k→15→16→11→20→let→1→0→-\nE→1→18→19→-→-→plain→-→-→bool\nQ→def→1→0\nQ→def→0→2\n"
+    "index→1\nM→main\nS→-→module\nT→felt\nD→0→f→3→4→0→30→fn→0\nD→0→k→35→36→31→40→use→lib→k\nD→0→c→46→47→41→55→const→-→0\nE→0→50→51→-→1→plain→-→-→ident→k\nM→lib\nS→-→module\nS→0→function\nS→0→function\nT→u32\nT→felt\nD→0→g→3→4→0→30→fn→0\nD→0→k→37→38→31→50→const→0→-\nD→2→k→15→16→11→20→let→1→0→-\nE→2→18→19→-→-→plain→-→-→bool\nQ→def→1→0\nQ→def→0→2\n"
 
 unfoldable pub moved : Pair
 moved =
-    record { first-file = body-in-main; second-file = body-in-lib; first-body = body 0 1 (1 ∷ []); second-body = body 1 1 (1 ∷ []); types = (0, 0) ∷ (1, 0) ∷ [] }
+    record { first-file = body-in-main; second-file = body-in-lib; first-body = body 0 1 (1 ∷ []); second-body = body 1 2 (2 ∷ []); types = (0, 0) ∷ (1, 0) ∷ [] }
 
 moved-agreeing : Agreeing moved
 unfolding loads tests index-in file-test moved body-in-main body-in-lib
@@ -218,11 +219,13 @@ ring-other-printed = refl
 pub record Refused : Type 0 where
   pub file : String
   pub scopes : BodyScopes
+  pub types : Types
 
+-- no T is listed
 abbrev refused : String → BodyScopes → Refused
-refused file scopes = record { file = file; scopes = scopes }
+refused file scopes = record { file = file; scopes = scopes; types = [] }
 
--- each lacks one of the premises, with no T listed
+-- each lacks one of the premises
 unfoldable pub lacking : List Refused
 lacking =
     -- the body's scope is a block
@@ -241,15 +244,48 @@ lacking =
     -- an outside definition names a T that is not listed; so does an outside expression
     ∷ refused "index→1\nM→m\nS→-→module\nS→0→function\nT→felt\nD→0→f→0→1→0→1→fn→0\n" (body 0 1 (1 ∷ []))
     ∷ refused "index→1\nM→m\nS→-→module\nS→0→function\nT→felt\nE→0→2→3→-→-→plain→-→-→cast→0\n" (body 0 1 (1 ∷ []))
+    -- a T that is listed names one that is not
+    ∷ record { file = "index→1\nM→m\nS→-→module\nS→0→function\nT→felt\nT→ptr→0\n"; scopes = body 0 1 (1 ∷ []); types = (0, 1) ∷ [] }
     -- loading refuses the file
     ∷ refused "index→1\nM→m\nS→-→module\nS→1→function\n" (body 0 1 (1 ∷ []))
     ∷ []
 
-pub lacking-refused : map (λ r. file-test (r .file) (r .scopes) []) lacking ≡ map (λ r. false) lacking
+pub premise-lacking-refused : map (λ r. file-test (r .file) (r .scopes) (r .types)) lacking ≡ map (λ r. false) lacking
 unfolding loads tests index-in file-test lacking
-lacking-refused = refl
+premise-lacking-refused = refl
 
 -- the same without what is wrong passes
 pub nothing-lacking : file-test "index→1\nM→m\nS→-→module\nS→0→function\nS→1→block\n" (body 0 1 (1 ∷ 2 ∷ [])) [] ≡ true
 unfolding loads tests index-in file-test
 nothing-lacking = refl
+
+-- D 0, E 0 and scope 0 are outside, D 1, E 1 and scope 1 inside; of T 0 and 1 the first is listed
+unfoldable pub asked-file : String
+asked-file =
+    "index→1\nM→m\nS→-→module\nS→0→function\nT→felt\nT→felt\nD→0→c→0→1→0→1→const→-→0\nD→1→i→2→3→2→3→loop\nE→0→0→1→-→-→plain→-→-→bool\nE→1→2→3→-→-→plain→-→-→bool\n"
+
+abbrev asked : Question → Bool
+asked = question-test (index-in asked-file) (body 0 1 (1 ∷ [])) ((0, 0) ∷ [])
+
+-- about a record inside, an absent one, a scope inside, a T that is not listed, an absent module
+unfoldable pub not-outside : List Question
+not-outside =
+    Question.def 0 1
+    ∷ Question.def 0 2
+    ∷ Question.expr 0 1 none
+    ∷ Question.expr 0 2 none
+    ∷ Question.expr 0 0 (some 1)
+    ∷ Question.type 0 0 1
+    ∷ Question.type 0 1 0
+    ∷ Question.type 0 2 0
+    ∷ Question.def 1 0
+    ∷ []
+
+pub question-refused : map asked not-outside ≡ map (λ q. false) not-outside
+unfolding loads tests index-in asked-file not-outside
+question-refused = refl
+
+-- the same of records outside passes
+pub question-taken : map asked (Question.def 0 0 ∷ Question.expr 0 0 none ∷ Question.expr 0 0 (some 0) ∷ Question.type 0 0 0 ∷ []) ≡ true ∷ true ∷ true ∷ true ∷ []
+unfolding loads tests index-in asked-file
+question-taken = refl
