@@ -8,11 +8,12 @@
  * are lent, in the given lengths; nothing overflows; every call ends; the result and every byte of
  * `out` are those of the definition. The words and places are what is said with each function: the
  * definition's index and table, zero, or as they were. Of words that no record or type uses nothing
- * is said after an accepted file. Behind the lengths below nothing changes. The functions keep nothing
- * between two calls, allocate nothing, and call nothing but memcpy and its kin of the C library. So
- * calls from several threads are fine as long as no two of them share a buffer that is written. Each
- * call loads its file: what stands in the buffers before it, record words among it, has no part in the
- * result.
+ * is said after an accepted file. Behind the lengths below nothing changes. Each call loads its file:
+ * what stands in the buffers before it, record words among it, has no part in the result.
+ *
+ * Not proved, but so by the sources, which declare no C function: the functions keep nothing between
+ * two calls and allocate nothing; compiled, they call nothing but memcpy and its kin of the C library.
+ * So calls from several threads are fine as long as no two of them share a buffer that is written.
  *
  * What the caller promises: each pointer is valid for its length (counted in elements, not in bytes),
  * aligned for its element, and not NULL unless the length is 0; no buffer that is written overlaps

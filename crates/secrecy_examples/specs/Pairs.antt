@@ -5,8 +5,8 @@
 --   `between`: records inside stand between those outside by number: scopes, T, definitions and expressions.
 --   `moved`: the bodies stand in different modules, under different numbers.
 --   `ring`: the line that both have in common is a refusal.
--- Last, what the tests refuse: files of which each lacks one premise, and questions that are not about the outside. (Two files that differ outside have no
--- proof of `same`; that is not shown.) Assumes nothing.
+-- Last, what the tests refuse: files that lack a premise or whose lists of scopes and T are wrong, questions that are not about the outside or name a
+-- T that is not listed. (Two files that differ outside have no proof of `same`; that is not shown.) Assumes nothing.
 use Prim.Native.Nat.{ℕ}
 use Prim.Native.String.{String}
 use mathlib.Core.Path.{_≡_, refl}
@@ -225,9 +225,9 @@ pub record Refused : Type 0 where
 abbrev refused : String → BodyScopes → Refused
 refused file scopes = record { file = file; scopes = scopes; types = [] }
 
--- each lacks one of the premises
-unfoldable pub lacking : List Refused
-lacking =
+-- each lacks one of the premises, or one of its lists, of the scopes inside and of the T, is wrong
+unfoldable pub refused-files : List Refused
+refused-files =
     -- the body's scope is a block
     refused "index→1\nM→m\nS→-→module\nS→0→function\nS→1→block\n" (body 0 2 (2 ∷ []))
     -- a scope below the body is not said to be inside; a scope is said to be inside and is not below
@@ -250,14 +250,14 @@ lacking =
     ∷ refused "index→1\nM→m\nS→-→module\nS→1→function\n" (body 0 1 (1 ∷ []))
     ∷ []
 
-pub premise-lacking-refused : map (λ r. file-test (r .file) (r .scopes) (r .types)) lacking ≡ map (λ r. false) lacking
-unfolding loads tests index-in file-test lacking
-premise-lacking-refused = refl
+pub files-refused : map (λ r. file-test (r .file) (r .scopes) (r .types)) refused-files ≡ map (λ r. false) refused-files
+unfolding loads tests index-in file-test refused-files
+files-refused = refl
 
 -- the same without what is wrong passes
-pub nothing-lacking : file-test "index→1\nM→m\nS→-→module\nS→0→function\nS→1→block\n" (body 0 1 (1 ∷ 2 ∷ [])) [] ≡ true
+pub file-taken : file-test "index→1\nM→m\nS→-→module\nS→0→function\nS→1→block\n" (body 0 1 (1 ∷ 2 ∷ [])) [] ≡ true
 unfolding loads tests index-in file-test
-nothing-lacking = refl
+file-taken = refl
 
 -- D 0, E 0 and scope 0 are outside, D 1, E 1 and scope 1 inside; of T 0 and 1 the first is listed
 unfoldable pub asked-file : String
@@ -267,9 +267,9 @@ asked-file =
 abbrev asked : Question → Bool
 asked = question-test (index-in asked-file) (body 0 1 (1 ∷ [])) ((0, 0) ∷ [])
 
--- about a record inside, an absent one, a scope inside, a T that is not listed, an absent module
-unfoldable pub not-outside : List Question
-not-outside =
+-- about a record inside, an absent one, a scope inside, an absent module; with a T that is not listed
+unfoldable pub refused-questions : List Question
+refused-questions =
     Question.def 0 1
     ∷ Question.def 0 2
     ∷ Question.expr 0 1 none
@@ -281,11 +281,11 @@ not-outside =
     ∷ Question.def 1 0
     ∷ []
 
-pub question-refused : map asked not-outside ≡ map (λ q. false) not-outside
-unfolding loads tests index-in asked-file not-outside
-question-refused = refl
+pub questions-refused : map asked refused-questions ≡ map (λ q. false) refused-questions
+unfolding loads tests index-in asked-file refused-questions
+questions-refused = refl
 
 -- the same of records outside passes
-pub question-taken : map asked (Question.def 0 0 ∷ Question.expr 0 0 none ∷ Question.expr 0 0 (some 0) ∷ Question.type 0 0 0 ∷ []) ≡ true ∷ true ∷ true ∷ true ∷ []
+pub questions-taken : map asked (Question.def 0 0 ∷ Question.expr 0 0 none ∷ Question.expr 0 0 (some 0) ∷ Question.type 0 0 0 ∷ []) ≡ true ∷ true ∷ true ∷ true ∷ []
 unfolding loads tests index-in asked-file
-question-taken = refl
+questions-taken = refl
