@@ -28,8 +28,8 @@ def crates():
 
 
 def times(log):
-    """Seconds of each crate's check, and of all its must-fail edits."""
-    checks, edits = {}, {}
+    """Seconds of each crate's check, and of each must-fail edit, in the order in which they were tried."""
+    checks, edits = {}, []
     with open(log, encoding="utf-8") as f:
         for line in f:
             proved = re.match(r"rt: (\w+) proved \((\d+) s\)", line)
@@ -37,7 +37,7 @@ def times(log):
             if proved:
                 checks[proved[1]] = int(proved[2])
             elif refused:
-                edits[refused[1]] = edits.get(refused[1], 0) + int(refused[2])
+                edits.append((refused[1], int(refused[2])))
     return checks, edits
 
 
@@ -48,7 +48,7 @@ def row(cells):
 def main(arguments):
     if len(arguments) > 1 or arguments[:1] in (["-h"], ["--help"]):
         sys.exit(__doc__)
-    checks, edits = times(arguments[0]) if arguments else ({}, {})
+    checks, edits = times(arguments[0]) if arguments else ({}, [])
     untold = [crate for crate in crates() if crate not in checks]
     if arguments and untold:
         sys.exit("%s: no time of %s" % (arguments[0], ", ".join(untold)))
@@ -61,10 +61,14 @@ def main(arguments):
         cells = [lines_in(os.path.join(folder, part), ending, comment) for part, ending, comment in KINDS]
         cells.append(len(glob.glob(os.path.join(folder, "must-fail", "*.edit"))))
         if arguments:
-            cells += [checks[crate], edits.get(crate, 0)]
+            cells += [checks[crate], sum(seconds for name, seconds in edits if name == crate)]
         total = [a + b for a, b in zip(total, cells)]
         row(["`%s`" % crate] + cells)
     row(["all"] + total)
+    if arguments:
+        # rt tries two at a time where there are two processors, and the next two once both have ended.
+        pairs = [max(seconds for _, seconds in edits[at : at + 2]) for at in range(0, len(edits), 2)]
+        print("\n%d edits, %d s as a sum; by twos, each as long as its longer one, %d s." % (len(edits), sum(seconds for _, seconds in edits), sum(pairs)))
 
 
 main(sys.argv[1:])
