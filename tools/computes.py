@@ -35,7 +35,7 @@ TABLES = [
         "resolves",
         "what `resolve` prints",
         [("format", "loads")],
-        [("resolution", m) for m in ("Types", "Compatible", "Programs", "Views", "TypeResolution", "Run", "Answer", "Resolve")],
+        [("resolution", m) for m in ("Types", "Compatible", "Asked", "Programs", "Views", "TypeResolution", "Run", "Answer", "Resolve")],
     ),
 ]
 

@@ -1,12 +1,13 @@
 #!/usr/bin/env python3
-"""Builds the static library and runs what stands on it: the example in C, the vectors in C (under valgrind where it is at hand), the Rust
-crate's tests, documentation and examples, and the fuzz target; and the tests of the lookups, on the library that is for the benchmark alone.
+"""Builds the static library and runs what stands on it: the header in C++, the example in C, the vectors in C (under valgrind where it is at
+hand) and with planted faults, the Rust crate's tests, documentation and examples, what docs/USING.md shows, and the fuzz target; and the tests
+of the lookups, on the library that is for the benchmark alone.
 
 usage: tools/library_runs.py
 
 The libraries are target/staticlib/libexport.a and liblookup_bench.a, which `rt staticlib export` and `rt staticlib lookup_bench` make; where
 EXPORT_LIB names a folder (absolute), those in it.
-What the machine lacks (rt, objdump, cc, valgrind, cargo, the original sources) is left out with one line. Exit status 0: everything as owed;
+What the machine lacks (rt, objdump, objcopy, cc, c++, valgrind, cargo, the original sources) is left out with one line. Exit status 0: everything as owed;
 1: a difference or a failure.
 """
 
@@ -22,7 +23,9 @@ MADE = os.path.join(ROOT, "target", "library_runs")
 # The crates whose static libraries are made: the one for users, and the one for the benchmark.
 LIBRARIES = ("export", "lookup_bench")
 EXPORTED = {"roognaps_load", "roognaps_answer", "roognaps_answer_from"}
-WARNINGS = ["-Wall", "-Wextra", "-Werror", "-pedantic", "-std=c11", "-g"]
+WARNINGS = ["-Wall", "-Wextra", "-Werror", "-pedantic"]
+C11 = [*WARNINGS, "-std=c11", "-g"]
+CPP11 = [*WARNINGS, "-std=c++11", "-x", "c++"]
 # Of the malformed vectors one of so many is run as a process of its own; all are replayed in one.
 MALFORMED_STEP = 10
 # A frame that is larger goes down page by page and touches each, so that too little stack meets the guard page.
@@ -107,10 +110,42 @@ def large_frames(listing):
     return functions > 0 and not wrong
 
 
+def in_file(path, pattern):
+    """What a pattern finds in a file of the repository; none where it finds nothing."""
+    with open(os.path.join(ROOT, *path), encoding="utf-8") as file:
+        found = re.search(pattern, file.read(), re.MULTILINE)
+    return found.group(1) if found else None
+
+
+def versions():
+    """The header says, as text and as numbers, the version of the Rust crates."""
+    header = ("include", "roognaps.h")
+    parts = [in_file(header, rf"^#define ROOGNAPS_VERSION_{part} (\d+)$") for part in ("MAJOR", "MINOR", "PATCH")]
+    text = in_file(header, r'^#define ROOGNAPS_VERSION "(.*)"$')
+    crates = in_file(("rust", "Cargo.toml"), r'^version = "(.*)"$')
+    say(f"include/roognaps.h is of version {text}")
+    if crates is None or text != crates or parts != crates.split("."):
+        say(f"its numbers are {parts}; rust/Cargo.toml says {crates}")
+        return False
+    return True
+
+
+def header_in_cpp():
+    """The header is C++ too: a program that uses all of it, compiled as such."""
+    if not shutil.which("c++"):
+        say("c++ isn't at hand; the header isn't tried in C++")
+        return True
+    made = run(["c++", *CPP11, "-fsyntax-only", "-Iinclude", "tools/robust/header.c"], cwd=ROOT)
+    if made.returncode != 0:
+        print(made.stdout)
+    say(f"include/roognaps.h is {'C++11' if made.returncode == 0 else 'no C++11'}")
+    return made.returncode == 0
+
+
 def compiled(source, name, folder):
     """The path of the program, or none and what the compiler said."""
     program = os.path.join(MADE, name)
-    words = ["cc", *WARNINGS, "-Iinclude", source, "-L" + folder, "-lexport", "-o", program]
+    words = ["cc", *C11, "-Iinclude", source, "-L" + folder, "-lexport", "-o", program]
     made = run(words, cwd=ROOT)
     if made.returncode != 0:
         print(made.stdout)
@@ -134,6 +169,15 @@ def files():
         yield from list(vectors(name))[::step]
 
 
+def answer_in_c(program, file, *words):
+    """What the example prints for a file and these arguments, and its exit status."""
+    path = os.path.join(MADE, "answer.idx")
+    with open(path, "wb") as out:
+        out.write(file)
+    done = subprocess.run([program, path, *words], stdout=subprocess.PIPE, stderr=subprocess.DEVNULL, check=False)
+    return done.stdout, done.returncode
+
+
 def example_in_c(folder):
     program = compiled("examples/c/answer.c", "answer", folder)
     if program is None:
@@ -146,7 +190,35 @@ def example_in_c(folder):
             differences += 1
             print(f"{name}: {done.stdout!r} (status {done.returncode}) instead of {owed!r}")
     say(f"examples/c/answer.c prints the lines owed for {count - differences} of {count} files")
-    return differences == 0 and tells_what_it_cannot_write(program)
+    return differences == 0 and one_line_in_c(program) and tells_what_it_cannot_write(program)
+
+
+def one_line_in_c(program):
+    """The example asked for one line: of a question, of a refused one, past its last, of no question, and by what is no number."""
+    _, file, lines = sample()
+    first = lines.splitlines(keepends=True)[0]
+    _, ring, owed = next(vector for vector in vectors(VECTOR_FILES[0]) if vector[2].endswith(b"\trefused\t7\n"))
+    last = str(owed.count(b"\n") - 1)
+    cases = [
+        (file, ["0"], (first, 0)),
+        (file, ["0", "0"], (first, 0)),
+        (file, ["0", "1"], (b"", 1)),
+        (file, ["0", "4294967295"], (b"", 1)),
+        (file, ["256"], (b"refused\t5\t0\n", 0)),
+        (b"index\t1\nX\n", ["0", "1"], (b"refused\t4\t2\n", 0)),
+        (ring, [last], (b"refused\t7\t0\n", 0)),
+        (file, ["0", "-1"], (b"", 2)),
+        (file, ["x"], (b"", 2)),
+        (file, ["0", "0", "0"], (b"", 2)),
+    ]
+    wrong = 0
+    for given, words, owed in cases:
+        done = answer_in_c(program, given, *words)
+        if done != owed:
+            wrong += 1
+            print(f"answer FILE {' '.join(words)}: {done} instead of {owed}")
+    say(f"examples/c/answer.c prints the line owed in {len(cases) - wrong} of {len(cases)} cases")
+    return wrong == 0
 
 
 def tells_what_it_cannot_write(program):
@@ -180,6 +252,45 @@ def vectors_in_c(folder):
     return True
 
 
+def few_vectors():
+    """The path of a file with a few vectors: answers of one part and of more, refused lines and files."""
+    accepted, malformed = [vector for name in VECTOR_FILES[:2] for vector in vectors(name)], list(vectors(VECTOR_FILES[2]))
+    long = next(vector for vector in accepted if len(vector[2]) > 4160)
+    ring = next(vector for vector in accepted if vector[2].endswith(b"\trefused\t7\n"))
+    path = os.path.join(MADE, "few.txt")
+    with open(path, "wb") as out:
+        for name, file, answer in [accepted[0], ring, long, malformed[0]]:
+            out.write(b"vector %s %d %d\n" % (name.encode(), len(file), len(answer)) + file + answer)
+    return path
+
+
+def planted_faults(folder):
+    """Each fault of tools/robust/planted.c, between the library and the vectors in C, is noticed."""
+    if not shutil.which("objcopy"):
+        say("objcopy isn't at hand; no faults are planted")
+        return True
+    program, source = os.path.join(MADE, "planted"), os.path.join("tools", "robust", "planted.c")
+    renamed = [f"--redefine-sym={name}={name.replace('roognaps', 'proved')}" for name in sorted(EXPORTED)]
+    for words in [
+        ["objcopy", *renamed, os.path.join(folder, "libexport.a"), os.path.join(MADE, "libproved.a")],
+        ["cc", *C11, "-Iinclude", "tools/robust/vectors.c", source, "-L" + MADE, "-lproved", "-o", program],
+    ]:
+        made = run(words, cwd=ROOT)
+        if made.returncode != 0:
+            print(made.stdout)
+            say("the library with faults isn't made")
+            return False
+    with open(os.path.join(ROOT, source), encoding="ascii") as file:
+        faults = re.findall(r'planted\("(\w+)"\)', file.read())
+    path = few_vectors()
+    status = {fault: run([program, path], env={**os.environ, "PLANTED": fault}).returncode for fault in ["", *faults]}
+    missed = [fault for fault in faults if status[fault] != 1]
+    say(f"{len(faults) - len(missed)} of {len(faults)} planted faults are noticed by the vectors in C")
+    if missed or status[""] != 0:
+        say(f"not noticed: {', '.join(missed) or 'none'}; without a fault the status is {status['']}")
+    return len(faults) > 0 and not missed and status[""] == 0
+
+
 def cargo(what, *words, **environment):
     done = run(["cargo", *words], cwd=os.path.join(ROOT, "rust"), env={**os.environ, **environment})
     if done.returncode != 0:
@@ -202,7 +313,7 @@ def wrong_library():
     os.makedirs(folder, exist_ok=True)
     object_file, archive = os.path.join(folder, "wrong.o"), os.path.join(folder, "libexport.a")
     for words in [
-        ["cc", *WARNINGS, "-O1", "-fPIC", "-Iinclude", "-c", "tools/robust/wrong.c", "-o", object_file],
+        ["cc", *C11, "-O1", "-fPIC", "-Iinclude", "-c", "tools/robust/wrong.c", "-o", object_file],
         ["ar", "rcs", archive, object_file],
     ]:
         made = run(words, cwd=ROOT)
@@ -219,38 +330,44 @@ def wrong_library():
     return True
 
 
+def using():
+    """docs/USING.md, with its tabs."""
+    with open(os.path.join(ROOT, "docs", "USING.md"), encoding="utf-8") as document:
+        return document.read().replace("→", "\t")
+
+
+def commands():
+    """Each command that docs/USING.md shows, with what it shows below it."""
+    for found in re.finditer(r"^    \$ (.*)\n((?:    (?!\$ ).*\n)*)", using(), re.MULTILINE):
+        yield found.group(1), re.sub(r"^    ", "", found.group(2), flags=re.MULTILINE)
+
+
 def shown(words):
-    """What docs/USING.md prints below the command with these words."""
-    with open(os.path.join(ROOT, "docs", "USING.md"), encoding="utf-8") as document:
-        lines = document.read().splitlines()
-    at = [number for number, line in enumerate(lines) if line.startswith("    $ ") and words in line]
-    printed = ""
-    for line in lines[at[0] + 1 :] if at else []:
-        if not line.startswith("    ") or line.startswith("    $ "):
-            break
-        printed += line[4:].replace("→", "\t") + "\n"
-    return printed
+    """What docs/USING.md shows below the command with these words."""
+    return next((printed for command, printed in commands() if words in command), "")
 
 
-def shown_source():
-    """The program that docs/USING.md begins with: the indented lines below the one that names its file."""
-    with open(os.path.join(ROOT, "docs", "USING.md"), encoding="utf-8") as document:
-        found = re.search(r"`target/total\.cm`:\n\n((?:    .*\n|\n)+)", document.read())
-    return "".join(line[4:] + "\n" for line in found.group(1).rstrip().splitlines()) if found else ""
+def shown_below(line):
+    """The indented lines of docs/USING.md below this line."""
+    found = re.search(rf"^{re.escape(line)}\n\n((?:    .*\n|\n)+)", using(), re.MULTILINE)
+    return re.sub(r"^    ", "", found.group(1), flags=re.MULTILINE).rstrip() + "\n" if found else ""
+
+
+def is_as_shown(what, printed, owed):
+    """Whether something prints what docs/USING.md shows, where a line `..` stands for any lines."""
+    pattern = re.escape(owed).replace(re.escape("..\n"), "(.*\n)*")
+    if not owed or not re.fullmatch(pattern, printed):
+        print(f"{printed!r}\ninstead of\n{owed!r}")
+        say(f"{what} doesn't print what docs/USING.md shows")
+        return False
+    say(f"{what} prints what docs/USING.md shows")
+    return True
 
 
 def example(name, *words):
     """The crate's example prints what docs/USING.md shows."""
-    owed = shown(f"--example {name}")
     printed = cargo(f"the example `{name}`", "run", "--offline", "--quiet", "-p", "roognaps", *words)
-    if printed is None:
-        return False
-    if printed != owed or not owed:
-        print(f"{printed!r}\ninstead of\n{owed!r}")
-        say(f"the example `{name}` doesn't print what docs/USING.md shows")
-        return False
-    say(f"the example `{name}` prints what docs/USING.md shows")
-    return True
+    return printed is not None and is_as_shown(f"the example `{name}`", printed, shown(f"--example {name}"))
 
 
 def originals_are_reachable():
@@ -264,18 +381,74 @@ def originals_are_reachable():
     return None
 
 
-def with_originals():
-    """What the crate has with the feature `export`: documentation, and the example `types`."""
+def with_originals(folder):
+    """What needs the original sources: the crate's module `export`, and what docs/USING.md shows of its program."""
     reachable = originals_are_reachable()
     if reachable is None:
         say("`typetool self-check` failed")
         return False
     if not reachable:
-        say("the original sources aren't reachable; the crate's module `export` is left out")
+        say("the original sources aren't reachable; the crate's module `export` and the program of docs/USING.md are left out")
         return True
+    documents = documented("--features", "export")
+    return documents and shown_index() and shown_types() and shown_rust() and shown_c(folder)
+
+
+def shown_index():
+    """target/total.cm and target/total.idx, as docs/USING.md makes them."""
     with open(os.path.join(ROOT, "target", "total.cm"), "w", encoding="ascii") as source:
-        source.write(shown_source())
-    return documented("--features", "export") and example("types", "--features", "export", "--example", "types", "--", "../target/total.cm")
+        source.write(shown_below("A program, `target/total.cm`:"))
+    index = cargo("the exporter", "run", "--offline", "--quiet", "--", "export", "../target/total.cm")
+    if index is None:
+        return False
+    with open(os.path.join(ROOT, "target", "total.idx"), "w", encoding="ascii") as file:
+        file.write(index)
+    return is_as_shown("the exporter", index, shown("cat target/total.idx"))
+
+
+def shown_types():
+    return example("types", "--features", "export", "--example", "types", "--", "../target/total.cm")
+
+
+def shown_rust():
+    """The Rust program of docs/USING.md, as a package of its own."""
+    package = os.path.join(MADE, "using")
+    os.makedirs(os.path.join(package, "src"), exist_ok=True)
+    manifest = os.path.join(package, "Cargo.toml")
+    with open(manifest, "w", encoding="utf-8") as file:
+        depends = shown_below("absolute path) and says what to run if it isn't there. In a `Cargo.toml`:")
+        depends = depends.replace("PATH/TO/rust", os.path.join(ROOT, "rust"))
+        file.write(f'[package]\nname = "using"\nedition = "2024"\n\n[workspace]\n\n{depends}')
+    with open(os.path.join(package, "src", "main.rs"), "w", encoding="utf-8") as file:
+        file.write(shown_below("A program:"))
+    words = ["run", "--offline", "--quiet", "--manifest-path", manifest, "--", "../target/total.idx"]
+    printed = cargo("the program of docs/USING.md", *words)
+    return printed is not None and is_as_shown("the program", printed, shown_below("What it prints for the file above:"))
+
+
+def shown_call():
+    """The call that docs/USING.md shows of the example in C stands in it, but for spaces."""
+    call = shown_below("The heart of it is a call in a loop that begins with line 0 of question 0:").split()
+    with open(os.path.join(ROOT, "examples", "c", "answer.c"), encoding="ascii") as source:
+        stands = len(call) > 0 and " ".join(call) in " ".join(source.read().split())
+    if not stands:
+        say("the call that docs/USING.md shows isn't that of examples/c/answer.c")
+    return stands
+
+
+def shown_c(folder):
+    """The commands of docs/USING.md that compile and run the example in C."""
+    if not shutil.which("cc"):
+        return True
+    compiling = [command.replace("-Ltarget/staticlib", "-L" + folder) for command, _ in commands() if command.startswith("cc ")]
+    running = [(command, owed) for command, owed in commands() if command.startswith("target/answer ")]
+    for command in compiling:
+        made = run(["sh", "-c", command], cwd=ROOT)
+        if made.returncode != 0:
+            print(made.stdout)
+            say(f"`{command}` failed")
+    done = [is_as_shown(f"`{command}`", run(["sh", "-c", command], cwd=ROOT).stdout, owed) for command, owed in running]
+    return len(compiling) > 0 and len(done) > 0 and all(done)
 
 
 def documented(*features):
@@ -322,22 +495,26 @@ def lookups(folder):
 
 def rust_crate(folder):
     tested = tests("roognaps", "--features", "export") and lookups(folder)
-    return tested and documented() and linted(folder) and example("moved", "--example", "moved") and with_originals() and fuzz_target()
+    return tested and documented() and linted(folder) and example("moved", "--example", "moved") and with_originals(folder) and fuzz_target()
 
 
 def main():
     os.makedirs(MADE, exist_ok=True)
+    well = versions()
     folder = libraries()
     if folder is None and "EXPORT_LIB" in os.environ:
         say("EXPORT_LIB names a folder that doesn't have libexport.a")
         return 1
     if folder is None:
         say("the static library isn't there, and rt isn't at hand to make it; left out")
-        return 0
-    well = compiled_library(folder)
+        return 0 if well else 1
+    well = compiled_library(folder) and well
+    well = header_in_cpp() and well
     if shutil.which("cc"):
         well = example_in_c(folder) and well
         well = vectors_in_c(folder) and well
+        well = planted_faults(folder) and well
+        well = shown_call() and well
     else:
         say("cc isn't at hand; the C programs are left out")
     if shutil.which("cargo"):

@@ -2,13 +2,15 @@
  * Answers an index file.
  *
  *     cc -std=c11 -Iinclude examples/c/answer.c -Ltarget/staticlib -lexport -o answer
- *     ./answer FILE            every question: prints what the program `resolve` prints.
- *                              Without FILE standard input is read
- *     ./answer FILE NUMBER     one question: prints the line of its type. If it is refused, `refused`, the
- *                              refusal and the line of the file, which is 0 for 6 to 10
+ *     ./answer FILE                  every question: prints what the program `resolve` prints.
+ *                                    Without FILE standard input is read
+ *     ./answer FILE QUESTION         one question: prints its first line. If it is refused, `refused`, the
+ *                                    refusal and the line of the file, which is 0 for 6 to 10
+ *     ./answer FILE QUESTION LINE    the same for another line of the question; both are numbered from 0
  *
- * Exit status 0: answered, also where questions or the file are refused; 2: it couldn't be read or
- * written, or the arguments are wrong.
+ * Exit status 0: answered, also where lines or the file are refused; 1: the question has no such line,
+ * which standard error says, and nothing is printed; 2: it couldn't be read or written, or the arguments
+ * are wrong.
  */
 #include <errno.h>
 #include <inttypes.h>
@@ -17,6 +19,8 @@
 #include <string.h>
 
 #include "roognaps.h"
+
+enum { ANSWERED = 0, NO_SUCH_LINE = 1, FAILED = 2 };
 
 /* One set of buffers a thread. Static, so that they take no stack. */
 static uint32_t records[ROOGNAPS_RECORD_WORDS];
@@ -28,50 +32,61 @@ static uint8_t out[ROOGNAPS_ANSWER_BYTES];
 static uint8_t file[ROOGNAPS_FILE_BYTES + 1];
 static size_t file_bytes;
 
-/* What roognaps_answer and roognaps_answer_from take. */
-typedef uint64_t entry(const uint8_t *, size_t, uint32_t, uint32_t *, size_t, uint32_t *, size_t,
-                       roognaps_place *, size_t, uint8_t *, size_t);
-
-static uint64_t ask(entry *call, uint32_t number)
+static int written(int is_written)
 {
-    return call(file, file_bytes, number, records, ROOGNAPS_RECORD_WORDS, types, ROOGNAPS_TYPE_WORDS,
-                places, ROOGNAPS_PLACES, out, ROOGNAPS_ANSWER_BYTES);
+    if (is_written && fflush(stdout) == 0)
+        return ANSWERED;
+    fprintf(stderr, "answer: the answer can't be written: %s\n", strerror(errno));
+    return FAILED;
 }
 
-/* False if it can't be written. */
-static int print_refused(uint32_t refusal, uint32_t line)
+static int print_refused(uint32_t refusal, uint32_t file_line)
 {
-    return printf("refused\t%" PRIu32 "\t%" PRIu32 "\n", refusal, line) > 0;
+    return written(printf("refused\t%" PRIu32 "\t%" PRIu32 "\n", refusal, file_line) > 0);
 }
 
-/* False if it can't be written. */
-static int print_out(size_t length)
+/* The first bytes of `out`. */
+static int print_out(size_t bytes)
 {
-    return fwrite(out, 1, length, stdout) == length;
+    return written(fwrite(out, 1, bytes, stdout) == bytes);
 }
 
 static int answer_all(void)
 {
-    uint32_t from = 0;
-    do {
-        uint64_t result = ask(roognaps_answer_from, from);
-        uint32_t refusal = roognaps_from_refusal(result);
-        if (refusal != 0)
-            return print_refused(refusal, roognaps_line(result));
-        if (!print_out(roognaps_length(result)))
-            return 0;
-        from = roognaps_next(result);
-    } while (from != 0);
-    return 1;
+    uint32_t question = 0, line = 0;
+    for (;;) {
+        roognaps_answer_from_result result =
+            roognaps_answer_from(file, file_bytes, question, line, records, ROOGNAPS_RECORD_WORDS, types,
+                                 ROOGNAPS_TYPE_WORDS, places, ROOGNAPS_PLACES, out, ROOGNAPS_ANSWER_BYTES);
+        enum roognaps_answer_from_result_kind kind = roognaps_answer_from_kind(result);
+        int status;
+        if (kind == ROOGNAPS_ANSWER_FROM_FILE_REFUSED)
+            return print_refused(roognaps_answer_from_refusal(result), roognaps_answer_from_file_line(result));
+        status = print_out(roognaps_answer_from_bytes(result));
+        if (status != ANSWERED || kind != ROOGNAPS_ANSWER_FROM_MORE)
+            return status;
+        question = roognaps_answer_from_next_question(result);
+        line = roognaps_answer_from_next_line(result);
+    }
 }
 
-static int answer_one(uint32_t number)
+static int answer_one(uint32_t question, uint32_t line)
 {
-    uint64_t result = ask(roognaps_answer, number);
-    uint32_t refusal = roognaps_refusal(result);
-    if (refusal != 0)
-        return print_refused(refusal, roognaps_line(result));
-    return print_out(roognaps_length(result));
+    roognaps_answer_result result =
+        roognaps_answer(file, file_bytes, question, line, records, ROOGNAPS_RECORD_WORDS, types,
+                        ROOGNAPS_TYPE_WORDS, places, ROOGNAPS_PLACES, out, ROOGNAPS_ANSWER_BYTES);
+    switch (roognaps_answer_kind(result)) {
+    case ROOGNAPS_ANSWER_LINE:
+        return print_out(roognaps_answer_bytes(result));
+    case ROOGNAPS_ANSWER_REFUSED:
+    case ROOGNAPS_ANSWER_FILE_REFUSED:
+        return print_refused(roognaps_answer_refusal(result), roognaps_answer_file_line(result));
+    case ROOGNAPS_ANSWER_PAST_LAST:
+        fprintf(stderr, "answer: question %" PRIu32 " has no line %" PRIu32 "\n", question, line);
+        return NO_SUCH_LINE;
+    }
+    fprintf(stderr, "answer: not the library of this header\n");
+    return FAILED;
 }
 
 /* Reads the file of a path, or standard input without one. False, and a message, if it can't be read. */
@@ -95,7 +110,7 @@ static int read_number(const char *word, uint32_t *number)
     errno = 0;
     read = strtoull(word, &end, 10);
     if (word[0] < '0' || word[0] > '9' || *end != '\0' || errno != 0 || read > UINT32_MAX) {
-        fprintf(stderr, "answer: %s is no question's number\n", word);
+        fprintf(stderr, "answer: %s is no number of a question or a line\n", word);
         return 0;
     }
     *number = (uint32_t)read;
@@ -104,20 +119,16 @@ static int read_number(const char *word, uint32_t *number)
 
 int main(int count, char **words)
 {
-    uint32_t number = 0;
-    int written;
-    if (count > 3) {
-        fprintf(stderr, "usage: answer [FILE [NUMBER]]\n");
-        return 2;
+    uint32_t question = 0, line = 0;
+    if (count > 4) {
+        fprintf(stderr, "usage: answer [FILE [QUESTION [LINE]]]\n");
+        return FAILED;
     }
-    if (count == 3 && !read_number(words[2], &number))
-        return 2;
+    if (count > 2 && !read_number(words[2], &question))
+        return FAILED;
+    if (count > 3 && !read_number(words[3], &line))
+        return FAILED;
     if (!read_file(count > 1 ? words[1] : NULL))
-        return 2;
-    written = count == 3 ? answer_one(number) : answer_all();
-    if (!written || fflush(stdout) != 0) {
-        fprintf(stderr, "answer: the answer can't be written: %s\n", strerror(errno));
-        return 2;
-    }
-    return 0;
+        return FAILED;
+    return count > 2 ? answer_one(question, line) : answer_all();
 }

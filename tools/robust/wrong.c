@@ -23,7 +23,7 @@ static uint64_t below(uint64_t end)
     return any() % end;
 }
 
-/* Pieces of lines, right and wrong. */
+/* Pieces of lines, right and wrong; the first three are whole lines. */
 static const char *const pieces[] = {
     "expr\t0\t0\ttype\tfelt\n", "def\t7\t9\trefused\t7\n", "type\t0\t1\ttype\t(u32,bool)\n",
     "expr\t", "def", "\t", "\n", "0", "-1", "00", "4294967296", "99999999999999999999", "type\t", "refused\t",
@@ -48,47 +48,72 @@ static void scribble(uint8_t *out, size_t count)
     }
 }
 
-/* A result of which each half is near something right, or anything. */
-static uint64_t result(void)
+/* Some lines that are right, at the start of `out`; how many bytes they have. */
+static uint64_t write_lines(uint8_t *out, uint64_t count)
 {
-    uint64_t high = below(3) ? below(14) : below(2) ? below(300) : any() >> 32;
-    uint64_t low = below(4) ? below(200) : below(2) ? below(5000) : any() >> 32;
-    if (below(2))
-        high = 0;
-    if (below(3) == 0)
-        low = strlen(pieces[0]) * below(200);
-    return (below(5) == 0 ? (uint64_t)1 << 63 : 0) + (high << 32) + low;
+    size_t n = strlen(pieces[0]), at;
+    for (at = 0; at < count; at++)
+        memcpy(out + n * at, pieces[0], n);
+    return n * count;
 }
 
-uint64_t roognaps_load(const uint8_t *file, size_t file_bytes, uint32_t *records, size_t record_count)
+/* The four parts of 16 bits of a result. */
+static uint64_t bits(uint64_t kind, uint64_t number, uint64_t high, uint64_t low)
 {
+    return (kind << 48) + (number << 32) + (high << 16) + low;
+}
+
+/* A result of which each part is near something right, or anything; some are near a refusal. */
+static uint64_t any_result(void)
+{
+    uint64_t kind = below(10) ? below(4) : any() >> 48;
+    uint64_t number = below(3) ? below(14) : below(2) ? below(300) : any() >> 48;
+    uint64_t high = below(3) ? 0 : below(2) ? below(4) : any() >> 48;
+    uint64_t low = below(4) ? strlen(pieces[0]) * below(4) : below(2) ? below(5000) : any() >> 48;
+    if (below(4) == 0)
+        return bits(below(2) ? ROOGNAPS_ANSWER_REFUSED : ROOGNAPS_ANSWER_FILE_REFUSED, below(12), 0, below(3));
+    return bits(kind, below(2) ? 0 : number, high, low);
+}
+
+roognaps_load_result roognaps_load(const uint8_t *file, size_t file_bytes, uint32_t *records, size_t record_count)
+{
+    roognaps_load_result given;
     (void)file, (void)file_bytes, (void)records, (void)record_count;
-    return result();
+    given.bits = below(4) ? any_result() : 0;
+    return given;
 }
 
-uint64_t roognaps_answer(const uint8_t *file, size_t file_bytes, uint32_t number, uint32_t *records,
-                         size_t record_count, uint32_t *types, size_t type_count, roognaps_place *places,
-                         size_t place_count, uint8_t *out, size_t out_count)
+roognaps_answer_result roognaps_answer(const uint8_t *file, size_t file_bytes, uint32_t number, uint32_t line,
+                                       uint32_t *records, size_t record_count, uint32_t *types, size_t type_count,
+                                       roognaps_place *places, size_t place_count, uint8_t *out, size_t out_count)
 {
-    (void)file, (void)file_bytes, (void)number, (void)records, (void)record_count;
+    roognaps_answer_result given;
+    (void)file, (void)file_bytes, (void)number, (void)line, (void)records, (void)record_count;
     (void)types, (void)type_count, (void)places, (void)place_count;
     scribble(out, out_count);
-    return result();
+    given.bits = any_result();
+    /* Often a whole line. */
+    if (below(2))
+        given.bits = bits(ROOGNAPS_ANSWER_LINE, 0, 0, write_lines(out, 1));
+    return given;
 }
 
-uint64_t roognaps_answer_from(const uint8_t *file, size_t file_bytes, uint32_t from, uint32_t *records,
-                              size_t record_count, uint32_t *types, size_t type_count,
-                              roognaps_place *places, size_t place_count, uint8_t *out, size_t out_count)
+roognaps_answer_from_result roognaps_answer_from(const uint8_t *file, size_t file_bytes, uint32_t from, uint32_t line,
+                                                 uint32_t *records, size_t record_count, uint32_t *types,
+                                                 size_t type_count, roognaps_place *places, size_t place_count,
+                                                 uint8_t *out, size_t out_count)
 {
-    uint64_t given = roognaps_answer(file, file_bytes, from, records, record_count, types, type_count, places,
-                                     place_count, out, out_count);
-    /* Often whole lines, and the right next question. */
-    if (below(2)) {
-        uint64_t lines = below(20), at;
-        size_t n = strlen(pieces[0]);
-        for (at = 0; at < lines; at++)
-            memcpy(out + n * at, pieces[0], n);
-        given = ((from + lines) << 32) + n * lines;
+    roognaps_answer_from_result given;
+    (void)file, (void)file_bytes, (void)line, (void)records, (void)record_count;
+    (void)types, (void)type_count, (void)places, (void)place_count;
+    scribble(out, out_count);
+    given.bits = any_result();
+    /* Often whole lines, and more behind them or the end. */
+    if (below(4)) {
+        uint64_t kind = below(3) ? ROOGNAPS_ANSWER_FROM_MORE : ROOGNAPS_ANSWER_FROM_END;
+        uint64_t is_more = kind == ROOGNAPS_ANSWER_FROM_MORE;
+        uint64_t lines = below(20);
+        given.bits = bits(kind, is_more * (from + below(3)), is_more * below(4), write_lines(out, lines));
     }
     return given;
 }

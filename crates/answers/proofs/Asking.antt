@@ -2,7 +2,7 @@
 use Prim.Native.Nat.{ℕ, zero, suc, _≤_, _<_, min}
 use mathlib.Core.Path.{_≡_, refl, sym, ap, ap₂, subst, _∙_}
 use mathlib.Core.List.{List, [], _∷_, _++_, append-nil}
-use mathlib.Core.Option.{some}
+use mathlib.Core.Option.{none, some}
 use native.Mathlib.Nat.{zero-add}
 use native.Mathlib.Omega.{arith}
 use lib.ListN.{length, getElem?, replicate, drop-of-length-le}
@@ -12,19 +12,27 @@ use Rattle.model.specs.Limits.{max-open-demands}
 use Rattle.format.proofs.Loaded.{loaded-well-formed}
 use Rattle.records.specs.Layout.{index-of, question-row, question-count}
 use Rattle.records.proofs.Lists.{each-at, each-length}
-use Rattle.resolution.specs.TypeResolution.{question-program}
-use Rattle.resolution.specs.Run.{answered, refused, run, demand, resolve-question}
-use Rattle.resolution.specs.Answer.{type-text, Verdict, text-verdict, outcome-verdict, verdict, question-lead, answer-line}
+use Rattle.resolution.specs.Asked.{Asked, question-asked}
+use Rattle.resolution.specs.Types.{first-table}
+use Rattle.resolution.specs.Programs.{Said, done}
+use Rattle.resolution.specs.TypeResolution.{says-type, asked-program}
+use Rattle.resolution.specs.Run.{Outcome, answered, refused, go-on, run, demand, resolve-asked}
+use Rattle.resolution.specs.Answer.{type-text, Verdict, text-verdict, said-verdict, outcome-verdict, verdict, asked-lead, Line, line-text}
+use Rattle.resolution.proofs.RunLaws.{run-bind}
 use Rattle.resolution.specs.TableOk.{TableOk}
 use Rattle.resolution.proofs.Tables.{first-table-ok}
 use Rattle.type_table.specs.Layout.{table-of}
 use Rattle.type_table.specs.Promises.{Starts, cleared as cleared-types}
 use Rattle.type_table.specs.declared.Resolved.{Resolved}
 use Rattle.demands.specs.Meaning.{open-demands, cleared, cleared-places, zero-place}
+use Rattle.records.specs.declared.TypeLink.{TypeLink}
 use Rattle.type_resolution.specs.State.{Ready, Runs, typed}
-use Rattle.answers.specs.Steps.{Loaded, AskedIs, StepIs, zero-types, zero-places, TypesKept, TypedAnswered, TypesAre, QuestionAnswered, TypesAfter, StepLeaves, Stepped, line-with}
-use Rattle.answers.specs.declared.Asked.{Asked}
+use Rattle.type_resolution.specs.Asking.{asked-of, expression-asked, typed-program}
+use Rattle.type_resolution.specs.declared.Asked as code
+use Rattle.answers.specs.Steps.{Loaded, Answering, StepIs, zero-types, zero-places, TypesKept, TypedAnswered, TypesHold, TypesAre, AskedAnswered, TypesAfter, LineThere, Stepped, line-with}
+use Rattle.answers.specs.declared.Tried.{Tried}
 use Rattle.answers.specs.declared.Step.{Step}
+use Rattle.answers.proofs.AskedLines.{line-there, past-line}
 
 -- ------------------------------------------------------------------ zeros
 
@@ -44,6 +52,17 @@ places-zero places long = zeros max-open-demands places long
 
 -- ------------------------------------------------------------------ resolving
 
+-- what is asked for a type says it
+asked-says : (index : Index) (asked : code.Asked) → asked-program index (asked-of asked) ≡ says-type (typed-program index asked)
+unfolding asked-program typed-program expression-asked
+asked-says index (code.Asked.Expr m e TypeLink.Absent) = refl
+asked-says index (code.Asked.Expr m e (TypeLink.To t)) = refl
+asked-says index (code.Asked.Def m d) = refl
+asked-says index (code.Asked.«Type» m t s) = refl
+
+said-as : Outcome ℕ → Outcome Said
+said-as o = go-on o (λ t table. answered (Said.type t) table)
+
 module _ (file words types started : List ℕ) (demands : List (List ℕ)) (loaded : Loaded file words types demands) (starts : Starts types started) where
   long : 8192 ≤ length types
   long = omega (arith, loaded .exact .types-long)
@@ -58,40 +77,49 @@ module _ (file words types started : List ℕ) (demands : List (List ℕ)) (load
         below = omega arith;
       }
 
-  module _ (question : Question) (types′ : List ℕ) (demands′ : List (List ℕ)) (r : Resolved)
-      (runs : Runs typed file words (question-program (index-of file words) question) 0 started demands types′ demands′ r) where
-    outcome : typed r (table-of file types′) ≡ resolve-question (index-of file words) question
-    unfolding resolve-question open-demands
+  module _ (asked : code.Asked) (types′ : List ℕ) (demands′ : List (List ℕ)) (r : Resolved)
+      (runs : Runs typed file words (typed-program (index-of file words) asked) 0 started demands types′ demands′ r) where
+    abbrev about : Asked
+    about = asked-of asked
+
+    outcome : said-as (typed r (table-of file types′)) ≡ resolve-asked (index-of file words) about
+    unfolding resolve-asked open-demands says-type run said-as
     outcome =
-        runs .outcome
-        ∙ ap (λ table. run (demand max-open-demands (index-of file words) []) (question-program (index-of file words) question) table) (starts .table long file)
+        let handler = demand max-open-demands (index-of file words) [] in
+        ap said-as
+        (runs .outcome
+        ∙ ap (λ table. run handler (typed-program (index-of file words) asked) table) (starts .table long file))
+        ∙ sym (run-bind handler (typed-program (index-of file words) asked) (λ t. done (Said.type t)) first-table)
+        ∙ ap (λ p. run handler p first-table) (sym (asked-says (index-of file words) asked))
 
     -- a refusal is the definition's
-    pub refused-as : (number : ℕ) → r ≡ Resolved.Refused number → verdict (index-of file words) question ≡ Verdict.refused number
-    unfolding verdict outcome-verdict typed
-    refused-as number e = ap outcome-verdict (sym outcome ∙ ap (λ x. typed x (table-of file types′)) e)
+    pub refused-as : (number : ℕ) → r ≡ Resolved.Refused number → verdict (index-of file words) about ≡ some (Verdict.refused number)
+    unfolding verdict outcome-verdict typed said-as go-on
+    refused-as number e = ap outcome-verdict (sym outcome ∙ ap (λ x. said-as (typed x (table-of file types′))) e)
 
     module _ (t : ℕ) (e : r ≡ Resolved.Answered t) where
-      pub answered-as : resolve-question (index-of file words) question ≡ answered t (table-of file types′)
-      unfolding typed
-      answered-as = sym outcome ∙ ap (λ x. typed x (table-of file types′)) e
+      pub answered-as : resolve-asked (index-of file words) about ≡ answered (Said.type t) (table-of file types′)
+      unfolding typed said-as go-on
+      answered-as = sym outcome ∙ ap (λ x. said-as (typed x (table-of file types′))) e
 
-      verdict-as : text-verdict (type-text (table-of file types′) t) ≡ verdict (index-of file words) question
-      unfolding verdict outcome-verdict
-      verdict-as = sym (ap outcome-verdict answered-as)
+      verdict-as : verdict (index-of file words) about ≡ some (text-verdict (type-text (table-of file types′) t))
+      unfolding verdict outcome-verdict said-verdict
+      verdict-as = ap outcome-verdict answered-as
 
-      types-left : (last : List ℕ) (a : Asked) → TypesKept types′ last a → TypesAre file (index-of file words) question last a
-      types-left last (Asked.Line n) kept = record { type = t; is = answered-as ∙ ap (λ w. answered t (table-of file w)) (sym kept) }
-      types-left last (Asked.Refused number) kept = kept
-      types-left last Asked.NoRoom kept = kept
+      types-left : (last : List ℕ) (a : Tried) → TypesKept types′ last a → TypesAre file (index-of file words) about last a
+      types-left last (Tried.Line n) kept = record { said = Said.type t; is = answered-as ∙ ap (λ w. answered (Said.type t) (table-of file w)) (sym kept) }
+      types-left last (Tried.Refused number) kept = kept
+      types-left last Tried.NoRoom kept = kept
 
-      -- the type's line, or none, is the question's
-      pub typed-answer : (out last out′ : List ℕ) (last-demands : List (List ℕ)) (a : Asked) → last-demands ≡ zero-places
-          → TypedAnswered (question-lead question) (text-verdict (type-text (table-of file types′) t)) types′ out last out′ a
-          → QuestionAnswered file (index-of file words) question out last last-demands out′ a
+      -- the type's line, or none, is the line about it
+      pub typed-answer : (out last out′ : List ℕ) (last-demands : List (List ℕ)) (a : Tried) → last-demands ≡ zero-places
+          → TypedAnswered (asked-lead about) (text-verdict (type-text (table-of file types′) t)) types′ out last out′ a
+          → AskedAnswered file (index-of file words) about out last last-demands out′ a
       typed-answer out last out′ last-demands a none-open all =
           record {
-            is = subst (λ v. AskedIs (question-lead question) v out out′ a) verdict-as (all .is);
+            v = text-verdict (type-text (table-of file types′) t);
+            has = verdict-as;
+            is = all .is;
             types-are = types-left last a (all .types-are);
             demands-are = none-open;
           }
@@ -106,47 +134,60 @@ row-asked file words number question same below =
     ∙ ap (λ k. some (question-row words k)) (zero-add number)
     ∙ ap some (sym same)
 
-module _ (file : Text) (index : Index) (number : ℕ) (question : Question) (asked : getElem? (index .questions) number ≡ some question)
-    (out types : List ℕ) (demands : List (List ℕ)) (out′ : List ℕ) where
-  pub typed-step : (n : ℕ) → QuestionAnswered file index question out types demands out′ (Asked.Line n) → Stepped file index number out types demands out′ (Step.Line n)
-  unfolding answer-line
-  typed-step n all =
-      record {
-        question = question;
-        asked = asked;
-        is = all .is .put;
-        leaves =
+-- ------------------------------------------------------------------ a line by its number
+
+-- a line that is no refusal leaves its types
+pub types-after : (file : Text) (index : Index) (asked : Asked) (types : List ℕ) (v : Verdict) → Answering v → TypesHold file index asked types → TypesAfter file index asked types v
+types-after file index asked types (Verdict.typed text) answering hold = hold
+types-after file index asked types (Verdict.worded word) answering hold = hold
+types-after file index asked types (Verdict.refused number) answering hold = absurd answering
+
+module _ (file : Text) (index : Index) (number : ℕ) (question : Question) (has-question : getElem? (index .questions) number ≡ some question) (line-number : ℕ)
+    (before-types : List ℕ) (before-demands : List (List ℕ)) (out : List ℕ) where
+  pub past-step : none ≡ getElem? (question-asked index question) line-number
+      → Stepped file index number line-number before-types before-demands out before-types before-demands out Step.PastLast
+  past-step is =
+      record { question = question; has-question = has-question; is-past = past-line index question line-number (sym is); types-same = refl; demands-same = refl; out-same = refl }
+
+  module _ (about : Asked) (asks : some about ≡ getElem? (question-asked index question) line-number) (types : List ℕ) (demands : List (List ℕ)) (out′ : List ℕ) where
+    abbrev pub the-line : (v : Verdict) → verdict index about ≡ some v → LineThere index number line-number
+    the-line v has =
+        record { question = question; has-question = has-question; line = record { asked = about; verdict = v }; is-line = line-there index question about v line-number (sym asks) has }
+
+    pub typed-step : (n : ℕ) → AskedAnswered file index about out types demands out′ (Tried.Line n)
+        → Stepped file index number line-number before-types before-demands out types demands out′ (Step.Line n)
+    unfolding line-text
+    typed-step n all =
+        record {
+          after =
+              record {
+                there = the-line (all .v) (all .has);
+                types-are = types-after file index about types (all .v) (all .is .answering) (all .types-are);
+                demands-are = all .demands-are;
+              };
+          put = all .is .put;
+        }
+
+    pub no-room-step : AskedAnswered file index about out types demands out′ Tried.NoRoom
+        → Stepped file index number line-number before-types before-demands out types demands out′ Step.NoRoom
+    unfolding line-text
+    no-room-step all = record { there = the-line (all .v) (all .has); not-put = all .is; types-are = all .types-are; demands-are = all .demands-are }
+
+    pub refused-step : (refusal : ℕ) → AskedAnswered file index about out types demands out′ (Tried.Refused refusal)
+        → (last : List ℕ) (r : Step) → StepIs (line-with (asked-lead about) (Verdict.refused refusal)) out′ last r
+        → Stepped file index number line-number before-types before-demands out types demands last r
+    unfolding line-text
+    refused-step refusal all last r put = at r (subst (λ o. StepIs (line-with (asked-lead about) (Verdict.refused refusal)) o last r) (all .is .same) put)
+      where
+        has : verdict index about ≡ some (Verdict.refused refusal)
+        has = all .has ∙ ap some (all .is .is)
+
+        at : (r : Step) → StepIs (line-with (asked-lead about) (Verdict.refused refusal)) out last r
+            → Stepped file index number line-number before-types before-demands out types demands last r
+        at (Step.Line n) put =
             record {
-              question = question;
-              asked = asked;
-              types-are = subst (TypesAfter file index question types) (sym (all .is .is)) (all .types-are);
-              demands-are = all .demands-are;
-            };
-      }
-
-  pub no-room-step : QuestionAnswered file index question out types demands out′ Asked.NoRoom → Stepped file index number out types demands out′ Step.NoRoom
-  unfolding answer-line
-  no-room-step all = record { question = question; asked = asked; is = all .is; leaves = (all .types-are, all .demands-are) }
-
-  module _ (refusal : ℕ) (all : QuestionAnswered file index question out types demands out′ (Asked.Refused refusal)) where
-    leaves : (r : Step) → StepLeaves file index number types demands r
-    leaves (Step.Line n) =
-        record {
-          question = question;
-          asked = asked;
-          types-are = subst (TypesAfter file index question types) (sym (all .is .is)) (all .types-are);
-          demands-are = all .demands-are;
-        }
-    leaves Step.NoRoom = (all .types-are, all .demands-are)
-
-    pub refused-step : (last : List ℕ) (r : Step) → StepIs (line-with (question-lead question) (Verdict.refused refusal)) out′ last r → Stepped file index number out types demands last r
-    unfolding answer-line
-    refused-step last r put =
-        record {
-          question = question;
-          asked = asked;
-          is =
-              subst (λ v. StepIs (line-with (question-lead question) v) out last r) (sym (all .is .is))
-              (subst (λ o. StepIs (line-with (question-lead question) (Verdict.refused refusal)) o last r) (all .is .same) put);
-          leaves = leaves r;
-        }
+              after = record { there = the-line (Verdict.refused refusal) has; types-are = all .types-are; demands-are = all .demands-are };
+              put = put;
+            }
+        at Step.NoRoom put = record { there = the-line (Verdict.refused refusal) has; not-put = put; types-are = all .types-are; demands-are = all .demands-are }
+        at Step.PastLast put = absurd put

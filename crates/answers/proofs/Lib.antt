@@ -3,4 +3,8 @@ pub mod Lines
 pub mod Asking
 pub mod Filling
 pub mod Entries
+pub mod AskedLines
+pub mod Pieces
 pub mod Whole
+pub mod Sizes
+pub mod Hiding

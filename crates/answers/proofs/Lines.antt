@@ -5,11 +5,12 @@ use mathlib.Core.List.{_++_, append-assoc}
 use native.Mathlib.Nat.{zero-add, lt-trans}
 use native.Mathlib.Omega.{arith}
 use borrow.Rule.Slice.PartMut.{midOf, postOf, putMid}
-use lib.Dec.{lit<}
+use mathlib.Core.Bool.{Bool, true, false}
+use lib.Dec.{lit<, leb}
 use lib.ListN.{length, take, drop, length-append, length-take, take-append-drop}
 use lib.Seq.{length-take-le, drop-at, drop-append-le, drop-drop}
-use Rattle.model.specs.Common.{Text, bytes}
-use Rattle.resolution.specs.Answer.{decimal, Verdict, verdict-fields}
+use Rattle.model.specs.Common.{Text, bytes, if_then_else_}
+use Rattle.resolution.specs.Answer.{decimal, Verdict, text-verdict, verdict-fields, asked-lead, Line, line-text}
 use Rattle.type_text.specs.Text.{put-at, Wrote}
 use Rattle.type_text.proofs.Decimals.{decimal-within}
 use Rattle.type_text.proofs.Writing.{wrote-then}
@@ -84,13 +85,28 @@ pub refused-line : (lead : Text) (n : ℕ) → lead ++ (bytes "refused\t" ++ (de
 unfolding verdict-fields
 refused-line lead n = refl
 
--- the line of any verdict is longer than the lead fields and `type` with its tab
-pub line-longer : (lead : Text) (v : Verdict) → length lead + 5 < length (line-with lead v)
-unfolding verdict-fields
-line-longer lead (Verdict.typed text) =
-    omega (arith, length-append lead (bytes "type\t" ++ (text ++ bytes "\n")), length-append (bytes "type\t") (text ++ bytes "\n"), length-append text (bytes "\n"))
-line-longer lead (Verdict.refused n) =
-    omega (arith, length-append lead (bytes "refused\t" ++ (decimal n ++ bytes "\n")), length-append (bytes "refused\t") (decimal n ++ bytes "\n"))
+-- the line of a type's text, or of refusal 10, is longer than the lead fields and `type` with its tab
+pub line-longer : (lead text : Text) → length lead + 5 < length (line-with lead (text-verdict text))
+unfolding text-verdict verdict-fields
+line-longer lead text = at (leb (length text) 4096)
+  where
+    at : (b : Bool) → length lead + 5 < length (line-with lead (if b then Verdict.typed text else Verdict.refused 10))
+    at true =
+        omega (arith, length-append lead (bytes "type\t" ++ (text ++ bytes "\n")), length-append (bytes "type\t") (text ++ bytes "\n"), length-append text (bytes "\n"))
+    at false =
+        omega (arith, length-append lead (bytes "refused\t" ++ (decimal 10 ++ bytes "\n")), length-append (bytes "refused\t") (decimal 10 ++ bytes "\n"))
+
+-- no line is empty
+pub line-some : (line : Line) → 0 < length (line-text line)
+unfolding line-text verdict-fields
+line-some line = at (line .verdict)
+  where
+    at : (v : Verdict) → 0 < length (asked-lead (line .asked) ++ verdict-fields v)
+    at (Verdict.typed text) =
+        omega (arith, length-append (asked-lead (line .asked)) (bytes "type\t" ++ (text ++ bytes "\n")), length-append (bytes "type\t") (text ++ bytes "\n"))
+    at (Verdict.worded word) = omega (arith, length-append (asked-lead (line .asked)) (word ++ bytes "\n"), length-append word (bytes "\n"))
+    at (Verdict.refused n) =
+        omega (arith, length-append (asked-lead (line .asked)) (bytes "refused\t" ++ (decimal n ++ bytes "\n")), length-append (bytes "refused\t") (decimal n ++ bytes "\n"))
 
 -- how long a typed line is
 pub typed-length : (lead text : Text) → length (line-with lead (Verdict.typed text)) ≡ length lead + 6 + length text

@@ -3,3 +3,4 @@ pub mod Meaning
 pub mod Steps
 pub mod Promises
 pub mod Whole
+pub mod Sizes

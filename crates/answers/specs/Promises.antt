@@ -2,17 +2,15 @@
 use Prim.Native.Nat.{ℕ}
 use mathlib.Core.Path.{_≡_}
 use mathlib.Core.List.{List}
-use mathlib.Core.Option.{some}
-use lib.ListN.{length, take, drop, getElem?, replicate}
+use lib.ListN.{length, take, drop, replicate}
 use Rattle.model.specs.Common.{Text}
-use Rattle.model.specs.Records.{Question}
 use Rattle.model.specs.Limits.{record-words, type-words, max-open-demands}
 use Rattle.model.specs.Refusals.{refusal-buffer}
 use Rattle.format.specs.Load.{accepted, load}
 use Rattle.records.specs.Layout.{index-of}
 use Rattle.resolution.specs.Resolve.{answer}
 use Rattle.answers.specs.Meaning.{answer-of, answer-out, lines-from, answers-of, lines-out}
-use Rattle.answers.specs.Steps.{Long, zero-types, zero-places, TypesHold, LinesLeave}
+use Rattle.answers.specs.Steps.{Long, zero-types, zero-places, TypesHold, LineThere, LinesLeave}
 use Rattle.answers.specs.declared.LineAnswer.{LineAnswer}
 use Rattle.answers.specs.declared.LinesAnswer.{LinesAnswer}
 
@@ -22,16 +20,15 @@ use Rattle.answers.specs.declared.LinesAnswer.{LinesAnswer}
 abbrev pub RecordsHold : Text → List ℕ → Type 0
 RecordsHold file words = load file ≡ accepted (index-of file words)
 
--- a type was written: the type words hold the question's table, and no demand is open
-pub record TypedLeaves (file : Text) (number : ℕ) (words types : List ℕ) (demands : List (List ℕ)) : Type 0 where
+-- a line was written: the type words hold the table of what it is about, and no demand is open
+pub record LineLeaves (file : Text) (number line-number : ℕ) (words types : List ℕ) (demands : List (List ℕ)) : Type 0 where
   pub records-are : RecordsHold file words
-  pub question : Question
-  pub asked : getElem? (index-of file words .questions) number ≡ some question
-  pub types-are : TypesHold file (index-of file words) question types
+  pub there : LineThere (index-of file words) number line-number
+  pub types-are : TypesHold file (index-of file words) (there .line .asked) types
   pub demands-are : demands ≡ zero-places
 
--- "After 6 to 10 it is all zero, the records stay loaded"; "The list of open demands is zero after every question"
-pub record RefusedLeaves (file words types : List ℕ) (demands : List (List ℕ)) : Type 0 where
+-- "After 6 to 10 it is all zero, the records stay loaded"; past the last line "the types zero"; "The list of open demands is zero after every question"
+pub record NoLineLeaves (file words types : List ℕ) (demands : List (List ℕ)) : Type 0 where
   pub records-are : RecordsHold file words
   pub types-are : types ≡ zero-types
   pub demands-are : demands ≡ zero-places
@@ -42,34 +39,35 @@ pub record FileRefusedLeaves (types : List ℕ) (demands : List (List ℕ)) (wor
   pub types-same : types′ ≡ types
   pub demands-same : demands′ ≡ demands
 
-abbrev pub Leaves : Text → ℕ → List ℕ → List (List ℕ) → List ℕ → List ℕ → List (List ℕ) → LineAnswer → Type 0
-Leaves file number types demands words types′ demands′ (LineAnswer.Line n) = TypedLeaves file number words types′ demands′
-Leaves file number types demands words types′ demands′ (LineAnswer.Refused refusal) = RefusedLeaves file words types′ demands′
-Leaves file number types demands words types′ demands′ (LineAnswer.FileRefused refusal at-line) = FileRefusedLeaves types demands words types′ demands′
+abbrev pub Leaves : Text → ℕ → ℕ → List ℕ → List (List ℕ) → List ℕ → List ℕ → List (List ℕ) → LineAnswer → Type 0
+Leaves file number line types demands words types′ demands′ (LineAnswer.Line n) = LineLeaves file number line words types′ demands′
+Leaves file number line types demands words types′ demands′ (LineAnswer.Refused refusal bytes) = NoLineLeaves file words types′ demands′
+Leaves file number line types demands words types′ demands′ LineAnswer.PastLast = NoLineLeaves file words types′ demands′
+Leaves file number line types demands words types′ demands′ (LineAnswer.FileRefused refusal at-line) = FileRefusedLeaves types demands words types′ demands′
 
 -- the answer and the answer bytes are the definition's
-pub record ExactAnswered (file : Text) (number : ℕ) (types : List ℕ) (demands : List (List ℕ)) (out words types′ : List ℕ)
+pub record ExactAnswered (file : Text) (number line : ℕ) (types : List ℕ) (demands : List (List ℕ)) (out words types′ : List ℕ)
     (demands′ : List (List ℕ)) (out′ : List ℕ) (r : LineAnswer) : Type 0 where
-  pub is : r ≡ answer-of (answer file number)
-  pub out-is : out′ ≡ answer-out (answer file number) out
-  pub leaves : Leaves file number types demands words types′ demands′ r
+  pub is : r ≡ answer-of (answer file number line)
+  pub out-is : out′ ≡ answer-out (answer file number line) out
+  pub leaves : Leaves file number line types demands words types′ demands′ r
 
 -- the lines of an accepted file that has the first question, or has just so many before it
-pub record LinesLeft (file : Text) (from : ℕ) (types : List ℕ) (demands : List (List ℕ)) (words types′ : List ℕ) (demands′ : List (List ℕ)) (r : LinesAnswer) : Type 0 where
+pub record LinesLeft (file : Text) (types : List ℕ) (demands : List (List ℕ)) (words types′ : List ℕ) (demands′ : List (List ℕ)) (r : LinesAnswer) : Type 0 where
   pub records-are : RecordsHold file words
-  pub leaves : LinesLeave file (index-of file words) from types demands types′ demands′ r
+  pub leaves : LinesLeave file (index-of file words) types demands types′ demands′ r
 
-abbrev pub LeavesFrom : Text → ℕ → List ℕ → List (List ℕ) → List ℕ → List ℕ → List (List ℕ) → LinesAnswer → Type 0
-LeavesFrom file from types demands words types′ demands′ (LinesAnswer.More next bytes) = LinesLeft file from types demands words types′ demands′ (LinesAnswer.More next bytes)
-LeavesFrom file from types demands words types′ demands′ (LinesAnswer.End bytes) = LinesLeft file from types demands words types′ demands′ (LinesAnswer.End bytes)
-LeavesFrom file from types demands words types′ demands′ (LinesAnswer.FileRefused number at-line) = FileRefusedLeaves types demands words types′ demands′
+abbrev pub LeavesFrom : Text → List ℕ → List (List ℕ) → List ℕ → List ℕ → List (List ℕ) → LinesAnswer → Type 0
+LeavesFrom file types demands words types′ demands′ (LinesAnswer.More next line bytes) = LinesLeft file types demands words types′ demands′ (LinesAnswer.More next line bytes)
+LeavesFrom file types demands words types′ demands′ (LinesAnswer.End bytes) = LinesLeft file types demands words types′ demands′ (LinesAnswer.End bytes)
+LeavesFrom file types demands words types′ demands′ (LinesAnswer.FileRefused number at-line) = FileRefusedLeaves types demands words types′ demands′
 
 -- the numbers and the answer bytes are those of the definition's lines that fit
-pub record ExactAnsweredFrom (file : Text) (from : ℕ) (types : List ℕ) (demands : List (List ℕ)) (out words types′ : List ℕ)
+pub record ExactAnsweredFrom (file : Text) (from line : ℕ) (types : List ℕ) (demands : List (List ℕ)) (out words types′ : List ℕ)
     (demands′ : List (List ℕ)) (out′ : List ℕ) (r : LinesAnswer) : Type 0 where
-  pub is : r ≡ answers-of (lines-from file from)
-  pub out-is : out′ ≡ lines-out (lines-from file from) out
-  pub leaves : LeavesFrom file from types demands words types′ demands′ r
+  pub is : r ≡ answers-of (lines-from file from line)
+  pub out-is : out′ ≡ lines-out (lines-from file from line) out
+  pub leaves : LeavesFrom file types demands words types′ demands′ r
 
 -- ------------------------------------------------------------------ buffers of any length
 
@@ -94,13 +92,13 @@ pub record Behind (before after : Buffers) : Type 0 where
   pub demands-behind : drop max-open-demands (after .demands) ≡ drop max-open-demands (before .demands)
 
 -- the answer and all answer bytes are the definition's, the first words and places are as they should be, and those behind them stay
-pub record Answered (file : Text) (number : ℕ) (before after : Buffers) (r : LineAnswer) : Type 0 where
-  pub first : ExactAnswered file number (take type-words (before .types)) (take max-open-demands (before .demands)) (before .out)
+pub record Answered (file : Text) (number line : ℕ) (before after : Buffers) (r : LineAnswer) : Type 0 where
+  pub first : ExactAnswered file number line (take type-words (before .types)) (take max-open-demands (before .demands)) (before .out)
       (take record-words (after .records)) (take type-words (after .types)) (take max-open-demands (after .demands)) (after .out) r
   pub behind : Behind before after
 
-pub record AnsweredFrom (file : Text) (from : ℕ) (before after : Buffers) (r : LinesAnswer) : Type 0 where
-  pub first : ExactAnsweredFrom file from (take type-words (before .types)) (take max-open-demands (before .demands)) (before .out)
+pub record AnsweredFrom (file : Text) (from line : ℕ) (before after : Buffers) (r : LinesAnswer) : Type 0 where
+  pub first : ExactAnsweredFrom file from line (take type-words (before .types)) (take max-open-demands (before .demands)) (before .out)
       (take record-words (after .records)) (take type-words (after .types)) (take max-open-demands (after .demands)) (after .out) r
   pub behind : Behind before after
 

@@ -1,27 +1,29 @@
 -- What the functions below the public entries ask and promise. The record words are exactly those of a loaded file; the type words and the
 -- places for open demands are exactly as many as document 01 says. Definitions only; assumes nothing.
-use Prim.Native.Nat.{ℕ, _-_, _≤_, _<_}
+use Prim.Native.Nat.{ℕ, suc, _≤_, _<_}
 use mathlib.Core.Path.{_≡_}
 use mathlib.Core.Bool.{Bool, true, false}
 use mathlib.Core.List.{List, [], _++_}
-use mathlib.Core.Option.{some}
-use lib.ListN.{length, drop, getElem?, replicate}
+use mathlib.Core.Option.{none, some}
+use lib.ListN.{length, getElem?, replicate}
 use Rattle.model.specs.Common.{Text}
 use Rattle.model.specs.Records.{Question, Index}
 use Rattle.model.specs.Limits.{record-words, type-words, max-open-demands, answer-bytes}
 use Rattle.format.specs.Load.{accepted, load}
 use Rattle.records.specs.Layout.{index-of}
-use Rattle.resolution.specs.Run.{answered, resolve-question}
-use Rattle.resolution.specs.Answer.{Verdict, verdict, question-lead, verdict-fields, answer-line}
+use Rattle.resolution.specs.Asked.{Asked}
+use Rattle.resolution.specs.Programs.{Said}
+use Rattle.resolution.specs.Run.{answered, resolve-asked}
+use Rattle.resolution.specs.Answer.{Verdict, verdict, asked-lead, verdict-fields, Line, line-text, question-lines}
 use Rattle.type_table.specs.Layout.{table-of}
 use Rattle.type_text.specs.Text.{Wrote}
 use Rattle.demands.specs.Meaning.{zero-place}
-use Rattle.answers.specs.Meaning.{put-first, fill, answers-of, lines-out}
-use Rattle.answers.specs.declared.Asked.{Asked}
+use Rattle.answers.specs.Meaning.{put-first, pieces-at, fill, answers-of, lines-out}
+use Rattle.answers.specs.declared.Tried.{Tried}
 use Rattle.answers.specs.declared.Step.{Step}
 use Rattle.answers.specs.declared.LinesAnswer.{LinesAnswer}
 
--- ------------------------------------------------------------------ what is asked
+-- ------------------------------------------------------------------ what is required
 
 -- the buffers are long enough
 pub record Long (records types places bytes : ℕ) : Type 0 where
@@ -48,10 +50,10 @@ pub record Loaded (file words types : List ℕ) (demands : List (List ℕ)) : Ty
 
 -- ------------------------------------------------------------------ lines
 
--- the four lead fields are few bytes
+-- the first three lead fields are few bytes
 pub record LeadPut (lead out out′ : Text) (r : ℕ) : Type 0 where
   pub wrote : Wrote lead 0 out out′ r
-  pub few : r ≤ 27
+  pub few : r ≤ 29
 
 -- a line stands at the start of the bytes
 pub record LinePut (line out out′ : Text) (n : ℕ) : Type 0 where
@@ -63,10 +65,15 @@ pub record LinePut (line out out′ : Text) (n : ℕ) : Type 0 where
 abbrev pub line-with : Text → Verdict → Text
 line-with lead v = lead ++ verdict-fields v
 
--- a typed line, which stands at the start
-pub record TypedPut (lead : Text) (v : Verdict) (out out′ : Text) (n : ℕ) : Type 0 where
-  pub text : Text
-  pub is : v ≡ Verdict.typed text
+-- a line that is no refusal
+abbrev pub Answering : Verdict → Type 0
+Answering (Verdict.typed text) = Unit {0}
+Answering (Verdict.worded word) = Unit {0}
+Answering (Verdict.refused number) = ⊥
+
+-- it stands at the start
+pub record AnswerPut (lead : Text) (v : Verdict) (out out′ : Text) (n : ℕ) : Type 0 where
+  pub answering : Answering v
   pub put : LinePut (line-with lead v) out out′ n
 
 pub record NotPut (line out out′ : Text) : Type 0 where
@@ -77,18 +84,19 @@ pub record RefusedWith (v : Verdict) (number : ℕ) (out out′ : Text) : Type 0
   pub is : v ≡ Verdict.refused number
   pub same : out′ ≡ out
 
--- what became of a verdict: only a typed line is written, and only where there is room for it
-abbrev pub AskedIs : Text → Verdict → Text → Text → Asked → Type 0
-AskedIs lead v out out′ (Asked.Line n) = TypedPut lead v out out′ n
-AskedIs lead v out out′ (Asked.Refused number) = RefusedWith v number out out′
-AskedIs lead v out out′ Asked.NoRoom = NotPut (line-with lead v) out out′
+-- what became of a verdict: only a line that is no refusal is written, and only where there is room for it
+abbrev pub TriedIs : Text → Verdict → Text → Text → Tried → Type 0
+TriedIs lead v out out′ (Tried.Line n) = AnswerPut lead v out out′ n
+TriedIs lead v out out′ (Tried.Refused number) = RefusedWith v number out out′
+TriedIs lead v out out′ Tried.NoRoom = NotPut (line-with lead v) out out′
 
 -- what became of a line: it is written where there is room for it
 abbrev pub StepIs : Text → Text → Text → Step → Type 0
 StepIs line out out′ (Step.Line n) = LinePut line out out′ n
 StepIs line out out′ Step.NoRoom = NotPut line out out′
+StepIs line out out′ Step.PastLast = ⊥
 
--- ------------------------------------------------------------------ the type words and the open demands after a question
+-- ------------------------------------------------------------------ the type words and the open demands after a line
 
 abbrev pub zero-types : List ℕ
 zero-types = replicate type-words 0
@@ -96,71 +104,101 @@ zero-types = replicate type-words 0
 abbrev pub zero-places : List (List ℕ)
 zero-places = replicate max-open-demands zero-place
 
--- the words hold the table of the question's outcome
-pub record TypesHold (file : Text) (index : Index) (question : Question) (types : List ℕ) : Type 0 where
-  pub type : ℕ
-  pub is : resolve-question index question ≡ answered type (table-of file types)
+-- the words hold the table of what the line is about
+pub record TypesHold (file : Text) (index : Index) (asked : Asked) (types : List ℕ) : Type 0 where
+  pub said : Said
+  pub is : resolve-asked index asked ≡ answered said (table-of file types)
 
--- a type was written, or the words are all zero
-abbrev pub TypesKept : List ℕ → List ℕ → Asked → Type 0
-TypesKept types types′ (Asked.Line n) = types′ ≡ types
-TypesKept types types′ (Asked.Refused number) = types′ ≡ zero-types
-TypesKept types types′ Asked.NoRoom = types′ ≡ zero-types
+-- a line was written, or the words are all zero
+abbrev pub TypesKept : List ℕ → List ℕ → Tried → Type 0
+TypesKept types types′ (Tried.Line n) = types′ ≡ types
+TypesKept types types′ (Tried.Refused number) = types′ ≡ zero-types
+TypesKept types types′ Tried.NoRoom = types′ ≡ zero-types
 
-pub record TypedAnswered (lead : Text) (v : Verdict) (types out types′ out′ : List ℕ) (r : Asked) : Type 0 where
-  pub is : AskedIs lead v out out′ r
+pub record TypedAnswered (lead : Text) (v : Verdict) (types out types′ out′ : List ℕ) (r : Tried) : Type 0 where
+  pub is : TriedIs lead v out out′ r
   pub types-are : TypesKept types types′ r
 
-abbrev pub TypesAre : Text → Index → Question → List ℕ → Asked → Type 0
-TypesAre file index question types (Asked.Line n) = TypesHold file index question types
-TypesAre file index question types (Asked.Refused number) = types ≡ zero-types
-TypesAre file index question types Asked.NoRoom = types ≡ zero-types
+abbrev pub TypesAre : Text → Index → Asked → List ℕ → Tried → Type 0
+TypesAre file index asked types (Tried.Line n) = TypesHold file index asked types
+TypesAre file index asked types (Tried.Refused number) = types ≡ zero-types
+TypesAre file index asked types Tried.NoRoom = types ≡ zero-types
 
-pub record QuestionAnswered (file : Text) (index : Index) (question : Question) (out types′ : List ℕ) (demands′ : List (List ℕ))
-    (out′ : List ℕ) (r : Asked) : Type 0 where
-  pub is : AskedIs (question-lead question) (verdict index question) out out′ r
-  pub types-are : TypesAre file index question types′ r
+pub record AskedAnswered (file : Text) (index : Index) (asked : Asked) (out types′ : List ℕ) (demands′ : List (List ℕ))
+    (out′ : List ℕ) (r : Tried) : Type 0 where
+  pub v : Verdict
+  pub has : verdict index asked ≡ some v
+  pub is : TriedIs (asked-lead asked) v out out′ r
+  pub types-are : TypesAre file index asked types′ r
   pub demands-are : demands′ ≡ zero-places
 
--- after a question the type words hold its table, or are all zero where it is refused
-abbrev pub TypesAfter : Text → Index → Question → List ℕ → Verdict → Type 0
-TypesAfter file index question types (Verdict.typed text) = TypesHold file index question types
-TypesAfter file index question types (Verdict.refused number) = types ≡ zero-types
+-- after a line the type words hold its table, or are all zero where it is a refusal
+abbrev pub TypesAfter : Text → Index → Asked → List ℕ → Verdict → Type 0
+TypesAfter file index asked types (Verdict.typed text) = TypesHold file index asked types
+TypesAfter file index asked types (Verdict.worded word) = TypesHold file index asked types
+TypesAfter file index asked types (Verdict.refused number) = types ≡ zero-types
 
--- the question of a number was answered last
-pub record After (file : Text) (index : Index) (number : ℕ) (types : List ℕ) (demands : List (List ℕ)) : Type 0 where
+-- a question's line
+pub record LineThere (index : Index) (number line-number : ℕ) : Type 0 where
   pub question : Question
-  pub asked : getElem? (index .questions) number ≡ some question
-  pub types-are : TypesAfter file index question types (verdict index question)
+  pub has-question : getElem? (index .questions) number ≡ some question
+  pub line : Line
+  pub is-line : getElem? (question-lines index question) line-number ≡ some line
+
+-- it was answered last
+pub record After (file : Text) (index : Index) (number line-number : ℕ) (types : List ℕ) (demands : List (List ℕ)) : Type 0 where
+  pub there : LineThere index number line-number
+  pub types-are : TypesAfter file index (there .line .asked) types (there .line .verdict)
   pub demands-are : demands ≡ zero-places
 
--- a line that does not fit leaves zeros
-abbrev pub StepLeaves : Text → Index → ℕ → List ℕ → List (List ℕ) → Step → Type 0
-StepLeaves file index number types demands (Step.Line n) = After file index number types demands
-StepLeaves file index number types demands Step.NoRoom = (types ≡ zero-types) × (demands ≡ zero-places)
+pub record LineStep (file : Text) (index : Index) (number line-number : ℕ) (out types′ : List ℕ) (demands′ : List (List ℕ)) (out′ : List ℕ) (n : ℕ) : Type 0 where
+  pub after : After file index number line-number types′ demands′
+  pub put : LinePut (line-text (after .there .line)) out out′ n
 
-pub record Stepped (file : Text) (index : Index) (number : ℕ) (out types′ : List ℕ) (demands′ : List (List ℕ)) (out′ : List ℕ) (r : Step) : Type 0 where
+-- a line that does not fit leaves zeros
+pub record NoRoomStep (index : Index) (number line-number : ℕ) (out types′ : List ℕ) (demands′ : List (List ℕ)) (out′ : List ℕ) : Type 0 where
+  pub there : LineThere index number line-number
+  pub not-put : NotPut (line-text (there .line)) out out′
+  pub types-are : types′ ≡ zero-types
+  pub demands-are : demands′ ≡ zero-places
+
+-- where there is no such line all is as it was
+pub record PastStep (index : Index) (number line-number : ℕ) (types : List ℕ) (demands : List (List ℕ)) (out types′ : List ℕ) (demands′ : List (List ℕ)) (out′ : List ℕ) : Type 0 where
   pub question : Question
-  pub asked : getElem? (index .questions) number ≡ some question
-  pub is : StepIs (answer-line index question) out out′ r
-  pub leaves : StepLeaves file index number types′ demands′ r
+  pub has-question : getElem? (index .questions) number ≡ some question
+  pub is-past : getElem? (question-lines index question) line-number ≡ none
+  pub types-same : types′ ≡ types
+  pub demands-same : demands′ ≡ demands
+  pub out-same : out′ ≡ out
+
+abbrev pub Stepped : Text → Index → ℕ → ℕ → List ℕ → List (List ℕ) → List ℕ → List ℕ → List (List ℕ) → List ℕ → Step → Type 0
+Stepped file index number line-number types demands out types′ demands′ out′ (Step.Line n) = LineStep file index number line-number out types′ demands′ out′ n
+Stepped file index number line-number types demands out types′ demands′ out′ Step.NoRoom = NoRoomStep index number line-number out types′ demands′ out′
+Stepped file index number line-number types demands out types′ demands′ out′ Step.PastLast = PastStep index number line-number types demands out types′ demands′ out′
 
 -- ------------------------------------------------------------------ the lines of many questions
 
--- as they were where no question was answered; else as after the last one
-pub record AfterLast (file : Text) (index : Index) (from next : ℕ) (types : List ℕ) (demands : List (List ℕ)) (types′ : List ℕ)
+-- a line behind which there is none
+pub record LastLine (file : Text) (index : Index) (types : List ℕ) (demands : List (List ℕ)) : Type 0 where
+  pub number : ℕ
+  pub line-number : ℕ
+  pub after : After file index number line-number types demands
+  pub is-last : pieces-at index number (suc line-number) ≡ []
+
+-- as they were where no line was written; else as after the last one
+pub record AfterLast (file : Text) (index : Index) (bytes : ℕ) (types : List ℕ) (demands : List (List ℕ)) (types′ : List ℕ)
     (demands′ : List (List ℕ)) : Type 0 where
-  pub none : next ≡ from → (types′ ≡ types) × (demands′ ≡ demands)
-  pub last : from < next → After file index (next - 1) types′ demands′
+  pub none : bytes ≡ 0 → (types′ ≡ types) × (demands′ ≡ demands)
+  pub last : 0 < bytes → LastLine file index types′ demands′
 
--- `More`: the next question was tried, and its line did not fit. The file is accepted
-abbrev pub LinesLeave : Text → Index → ℕ → List ℕ → List (List ℕ) → List ℕ → List (List ℕ) → LinesAnswer → Type 0
-LinesLeave file index from types demands types′ demands′ (LinesAnswer.More next bytes) = (types′ ≡ zero-types) × (demands′ ≡ zero-places)
-LinesLeave file index from types demands types′ demands′ (LinesAnswer.End bytes) = AfterLast file index from (length (index .questions)) types demands types′ demands′
-LinesLeave file index from types demands types′ demands′ (LinesAnswer.FileRefused number at-line) = ⊥
+-- `More`: the next line was tried, and did not fit. The file is accepted
+abbrev pub LinesLeave : Text → Index → List ℕ → List (List ℕ) → List ℕ → List (List ℕ) → LinesAnswer → Type 0
+LinesLeave file index types demands types′ demands′ (LinesAnswer.More number line bytes) = (types′ ≡ zero-types) × (demands′ ≡ zero-places)
+LinesLeave file index types demands types′ demands′ (LinesAnswer.End bytes) = AfterLast file index bytes types demands types′ demands′
+LinesLeave file index types demands types′ demands′ (LinesAnswer.FileRefused number at-line) = ⊥
 
-pub record LinesWritten (file : Text) (index : Index) (from : ℕ) (types out : List ℕ) (demands : List (List ℕ)) (types′ : List ℕ)
+pub record LinesWritten (file : Text) (index : Index) (from line : ℕ) (types out : List ℕ) (demands : List (List ℕ)) (types′ : List ℕ)
     (demands′ : List (List ℕ)) (out′ : List ℕ) (r : LinesAnswer) : Type 0 where
-  pub is : r ≡ answers-of (fill index [] from (drop from (index .questions)))
-  pub bytes : out′ ≡ lines-out (fill index [] from (drop from (index .questions))) out
-  pub leaves : LinesLeave file index from types demands types′ demands′ r
+  pub is : r ≡ answers-of (fill [] (pieces-at index from line))
+  pub bytes : out′ ≡ lines-out (fill [] (pieces-at index from line)) out
+  pub leaves : LinesLeave file index types demands types′ demands′ r

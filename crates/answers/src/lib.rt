@@ -3,41 +3,53 @@ use demands::Place;
 use loader::Loaded;
 use records::FoundQuestion;
 use records::Question;
+use type_resolution::Asked;
 use type_table::Resolved;
 use type_text::TypeText;
 ghost use mathlib.Core.Path.{_≡_};
 ghost use Prim.Native.Nat.{_+_, _≤_, _<_};
 ghost use mathlib.Core.List.{_++_};
-ghost use lib.ListN.{length};
+ghost use lib.ListN.{length, getElem?};
 ghost use Rattle.model.specs.Common.{bytes};
+ghost use Rattle.model.specs.Records.{Index};
 ghost use Rattle.records.specs.Layout.{index-of};
 ghost use Rattle.records.specs.Meaning.{question-of};
-ghost use Rattle.resolution.specs.Answer.{decimal, type-text, Verdict, text-verdict, question-lead};
+ghost use Rattle.resolution.specs.Answer.{decimal, type-text, Verdict, text-verdict, asked-lead};
+ghost use Rattle.resolution.specs.Asked.{question-asked};
 ghost use Rattle.resolution.specs.TableOk.{TableOk};
 ghost use Rattle.type_table.specs.Layout.{table-of, Sound};
-ghost use Rattle.answers.specs.Steps.{LongIs, Exact, Loaded as HoldsFile, LeadPut, AskedIs, StepIs, line-with};
-ghost use Rattle.answers.specs.Steps.{TypedAnswered, QuestionAnswered, Stepped, LinesWritten};
+ghost use Rattle.type_resolution.specs.Asking.{asked-of};
+ghost use Rattle.answers.specs.Meaning.{found-asked-of};
+ghost use Rattle.answers.specs.Steps.{LongIs, Exact, Loaded as HoldsFile, LeadPut, TriedIs, StepIs, line-with};
+ghost use Rattle.answers.specs.Steps.{TypedAnswered, AskedAnswered, Stepped, LinesWritten};
 ghost use Rattle.answers.specs.Promises.{buffers, LongBuffers, ShortAnswer, Answered, ShortAnswers, AnsweredFrom};
 ghost use Rattle.answers.specs.Promises.{ExactAnswered, ExactAnsweredFrom};
 
-// One question's answer: a line of a type stands at the start of the answer buffer, with its length; refusal 6 to 10; or refusal 1 to 5
-// with its line, 0 where no line is at fault.
+// One line's answer: it stands at the start of the answer buffer, with its length; refusal 6 to 10, with how many bytes the answer buffer holds for it
+// from its start, none; the question has no line of that number; or refusal 1 to 5 with its line, 0 where no line is at fault.
 pub enum LineAnswer {
     Line(usize),
-    Refused(u32),
+    Refused(u32, usize),
+    PastLast,
     FileRefused(u32, u32),
 }
 
-// The lines of many questions: the first question whose line no longer fits, and how many bytes are written; all lines up to the last
-// question's, and how many bytes; or refusal 1 to 5 with its line.
+// The lines of many questions: the first line that no longer fits, by the numbers of its question and its own, and how many bytes are written;
+// all lines up to the last question's, and how many bytes; or refusal 1 to 5 with its line.
 pub enum LinesAnswer {
-    More(u32, usize),
+    More(u32, u32, usize),
     End(usize),
     FileRefused(u32, u32),
 }
 
-// What became of a question: its line is written, it is refused, or its line has no room.
-pub enum Asked {
+// What a question asks at a line's number.
+pub enum FoundAsked {
+    Past,
+    Found(Asked),
+}
+
+// What became of what is asked: its line is written, it is refused, or its line has no room.
+pub enum Tried {
     Line(usize),
     Refused(u32),
     NoRoom,
@@ -47,6 +59,7 @@ pub enum Asked {
 pub enum Step {
     Line(usize),
     NoRoom,
+    PastLast,
 }
 
 // The lengths that the answer buffer and, in their crates, the other buffers must have.
@@ -54,9 +67,9 @@ const ANSWER_BYTES: usize = 4160;
 
 // ------------------------------------------------------------------ lines
 
-// Writes a question's kind, module and number, each with its tab.
+// Writes a line's kind, module and number, each with its tab.
 fn put_fields(kind: &[u8], m: u32, n: u32, out: &mut [u8]) -> usize
-    requires { ⌜ length (now kind) ≤ 5 ⌝ }
+    requires { ⌜ length (now kind) ≤ 7 ⌝ }
     requires { ⌜ 64 ≤ length (now out) ⌝ }
     ensures { λ r. ⌜ LeadPut (now (kind .entry) ++ (decimal m ++ (bytes "\t" ++ (decimal n ++ bytes "\t")))) (now (out .entry)) (now (out .exit)) r ⌝ }
 {
@@ -67,51 +80,51 @@ fn put_fields(kind: &[u8], m: u32, n: u32, out: &mut [u8]) -> usize
     type_text::put(out, fourth, b"\t")
 }
 
-// The lead fields of a question, by its kind.
-fn put_lead(question: Question, out: &mut [u8]) -> usize
+// The lead fields of a line, by what it is about.
+fn put_lead(asked: Asked, out: &mut [u8]) -> usize
     requires { ⌜ 64 ≤ length (now out) ⌝ }
-    ensures { λ r. ⌜ LeadPut (question-lead (question-of question)) (now (out .entry)) (now (out .exit)) r ⌝ }
+    ensures { λ r. ⌜ LeadPut (asked-lead (asked-of asked)) (now (out .entry)) (now (out .exit)) r ⌝ }
 {
-    match question {
-        Question::Expr(m, e, _) => put_fields(b"expr\t", m, e.0, out),
-        Question::Def(m, d) => put_fields(b"def\t", m, d.0, out),
-        Question::Type(m, t, _) => put_fields(b"type\t", m, t, out),
+    match asked {
+        Asked::Expr(m, e, _) => put_fields(b"expr\t", m, e.0, out),
+        Asked::Def(m, d) => put_fields(b"def\t", m, d.0, out),
+        Asked::Type(m, t, _) => put_fields(b"type\t", m, t, out),
     }
 }
 
 // Writes the line of a type. The text goes straight behind the four lead fields, into the rest of the buffer lent from its middle; it is
 // measured before anything is written, and the lead fields and the LF come once it stands, so that a line without room and refusal 10
 // leave the buffer as it is.
-fn write_typed(file: &[u8], types: &[u32], t: u32, question: Question, out: &mut [u8]) -> Asked
+fn write_typed(file: &[u8], types: &[u32], t: u32, asked: Asked, out: &mut [u8]) -> Tried
     requires { ⌜ Sound (now file) (now types) ⌝ }
     requires { ⌜ TableOk (table-of (now file) (now types)) ⌝ }
-    ensures { λ r. ⌜ AskedIs (question-lead (question-of question)) (text-verdict (type-text (table-of (now (file .entry)) (now (types .entry))) t)) (now (out .entry)) (now (out .exit)) r ⌝ }
+    ensures { λ r. ⌜ TriedIs (asked-lead (asked-of asked)) (text-verdict (type-text (table-of (now (file .entry)) (now (types .entry))) t)) (now (out .entry)) (now (out .exit)) r ⌝ }
 {
     let mut lead = [0u8; 64];
-    let named = put_lead(question, &mut lead);
+    let named = put_lead(asked, &mut lead);
     let at = type_text::put(&mut lead, named, b"type\t");
     let len = out.len();
     if len <= at {
-        return Asked::NoRoom;
+        return Tried::NoRoom;
     }
     let end = len - 1;
     match type_text::write_text(file, types, t, &mut out[at..end]) {
-        TypeText::TooLong => Asked::Refused(10),
-        TypeText::NoRoom => Asked::NoRoom,
+        TypeText::TooLong => Tried::Refused(10),
+        TypeText::NoRoom => Tried::NoRoom,
         TypeText::Written(n) => {
             type_text::put(out, 0, &lead[..at]);
             let last = type_text::put(out, at + n, b"\n");
-            Asked::Line(last)
+            Tried::Line(last)
         }
     }
 }
 
-// Writes the line of a refused question.
-fn write_refused(question: Question, number: u32, out: &mut [u8]) -> Step
-    ensures { λ r. ⌜ StepIs (line-with (question-lead (question-of question)) (Verdict.refused number)) (now (out .entry)) (now (out .exit)) r ⌝ }
+// Writes the line of a refusal.
+fn write_refused(asked: Asked, number: u32, out: &mut [u8]) -> Step
+    ensures { λ r. ⌜ StepIs (line-with (asked-lead (asked-of asked)) (Verdict.refused number)) (now (out .entry)) (now (out .exit)) r ⌝ }
 {
     let mut line = [0u8; 64];
-    let named = put_lead(question, &mut line);
+    let named = put_lead(asked, &mut line);
     let word = type_text::put(&mut line, named, b"refused\t");
     let digits = type_text::put_decimal(&mut line, word, number as u64);
     let end = type_text::put(&mut line, digits, b"\n");
@@ -122,100 +135,124 @@ fn write_refused(question: Question, number: u32, out: &mut [u8]) -> Step
     Step::Line(end)
 }
 
-// ------------------------------------------------------------------ a question
+// ------------------------------------------------------------------ a line
 
-// Writes the line of a question's type. Without one the type words are all zero.
-fn answer_typed(file: &[u8], types: &mut [u32], t: u32, question: Question, out: &mut [u8]) -> Asked
+// What a question asks at a number: each asks one thing, and has one line.
+fn asked_at(question: Question, line: u32) -> FoundAsked
+    ensures { λ r. ⌜ ((index : Index) → found-asked-of r ≡ getElem? (question-asked index (question-of question)) line) ⌝ }
+{
+    if line > 0 {
+        return FoundAsked::Past;
+    }
+    match question {
+        Question::Expr(m, e, context) => FoundAsked::Found(Asked::Expr(m, e, context)),
+        Question::Def(m, d) => FoundAsked::Found(Asked::Def(m, d)),
+        Question::Type(m, t, s) => FoundAsked::Found(Asked::Type(m, t, s)),
+    }
+}
+
+// Writes the line of a type. Without one the type words are all zero.
+fn answer_typed(file: &[u8], types: &mut [u32], t: u32, asked: Asked, out: &mut [u8]) -> Tried
     requires { ⌜ Sound (now file) (now types) ⌝ }
     requires { ⌜ TableOk (table-of (now file) (now types)) ⌝ }
     requires { ⌜ length (now types) ≡ 8192 ⌝ }
-    ensures { λ r. ⌜ TypedAnswered (question-lead (question-of question)) (text-verdict (type-text (table-of (now (file .entry)) (now (types .entry))) t)) (now (types .entry)) (now (out .entry)) (now (types .exit)) (now (out .exit)) r ⌝ }
+    ensures { λ r. ⌜ TypedAnswered (asked-lead (asked-of asked)) (text-verdict (type-text (table-of (now (file .entry)) (now (types .entry))) t)) (now (types .entry)) (now (out .entry)) (now (types .exit)) (now (out .exit)) r ⌝ }
 {
-    match write_typed(file, types, t, question, out) {
-        Asked::Line(n) => Asked::Line(n),
-        Asked::Refused(number) => {
+    match write_typed(file, types, t, asked, out) {
+        Tried::Line(n) => Tried::Line(n),
+        Tried::Refused(number) => {
             type_table::clear(types);
-            Asked::Refused(number)
+            Tried::Refused(number)
         }
-        Asked::NoRoom => {
+        Tried::NoRoom => {
             type_table::clear(types);
-            Asked::NoRoom
+            Tried::NoRoom
         }
     }
 }
 
-// Resolves a question of the loaded file and writes its line if it has a type. No demand is open behind it.
-fn answer_question(
+// Resolves what is asked of the loaded file and writes its line if it has a type. No demand is open behind it.
+fn answer_asked(
     file: &[u8],
     words: &[u32],
     types: &mut [u32],
     demands: &mut [Place],
-    question: Question,
+    asked: Asked,
     out: &mut [u8],
-) -> Asked
+) -> Tried
     requires { ⌜ HoldsFile (now file) (now words) (now types) (now demands) ⌝ }
-    ensures { λ r. ⌜ QuestionAnswered (now (file .entry)) (index-of (now (file .entry)) (now (words .entry))) (question-of question) (now (out .entry)) (now (types .exit)) (now (demands .exit)) (now (out .exit)) r ⌝ }
+    ensures { λ r. ⌜ AskedAnswered (now (file .entry)) (index-of (now (file .entry)) (now (words .entry))) (asked-of asked) (now (out .entry)) (now (types .exit)) (now (demands .exit)) (now (out .exit)) r ⌝ }
 {
     type_table::start(types);
-    let resolved = type_resolution::resolve_question(file, words, types, demands, question);
+    let resolved = type_resolution::resolve_asked(file, words, types, demands, asked);
     demands::clear(demands);
     match resolved {
-        Resolved::Answered(t) => answer_typed(file, types, t, question, out),
+        Resolved::Answered(t) => answer_typed(file, types, t, asked, out),
         Resolved::Refused(number) => {
             type_table::clear(types);
-            Asked::Refused(number)
+            Tried::Refused(number)
         }
     }
 }
 
-// The same of a question that the file has, by its number; a refused one's line is written too.
+// The line of a number, of a question that the file has; a refused one's line is written too.
 fn answer_line(
     file: &[u8],
     words: &[u32],
     types: &mut [u32],
     demands: &mut [Place],
     number: u32,
+    line: u32,
     out: &mut [u8],
 ) -> Step
     requires { ⌜ HoldsFile (now file) (now words) (now types) (now demands) ⌝ }
     requires { ⌜ number < length (index-of (now file) (now words) .questions) ⌝ }
-    ensures { λ r. ⌜ Stepped (now (file .entry)) (index-of (now (file .entry)) (now (words .entry))) number (now (out .entry)) (now (types .exit)) (now (demands .exit)) (now (out .exit)) r ⌝ }
+    ensures { λ r. ⌜ Stepped (now (file .entry)) (index-of (now (file .entry)) (now (words .entry))) number line (now (types .entry)) (now (demands .entry)) (now (out .entry)) (now (types .exit)) (now (demands .exit)) (now (out .exit)) r ⌝ }
 {
     let question = records::question_row(words, number);
-    match answer_question(file, words, types, demands, question, out) {
-        Asked::Line(n) => Step::Line(n),
-        Asked::NoRoom => Step::NoRoom,
-        Asked::Refused(refusal) => write_refused(question, refusal, out),
+    match asked_at(question, line) {
+        FoundAsked::Past => Step::PastLast,
+        FoundAsked::Found(asked) => match answer_asked(file, words, types, demands, asked, out) {
+            Tried::Line(n) => Step::Line(n),
+            Tried::NoRoom => Step::NoRoom,
+            Tried::Refused(refusal) => write_refused(asked, refusal, out),
+        },
     }
 }
 
-// The lines of the questions from a number on, while they fit.
+// The lines from a question's line on, while they fit.
 fn answer_lines(
     file: &[u8],
     words: &[u32],
     types: &mut [u32],
     demands: &mut [Place],
     from: u32,
+    start: u32,
     out: &mut [u8],
 ) -> LinesAnswer
     requires { ⌜ HoldsFile (now file) (now words) (now types) (now demands) ⌝ }
     requires { ⌜ from ≤ length (index-of (now file) (now words) .questions) ⌝ }
     requires { ⌜ length (now out) ≡ 4160 ⌝ }
-    ensures { λ r. ⌜ LinesWritten (now (file .entry)) (index-of (now (file .entry)) (now (words .entry))) from (now (types .entry)) (now (out .entry)) (now (demands .entry)) (now (types .exit)) (now (demands .exit)) (now (out .exit)) r ⌝ }
+    ensures { λ r. ⌜ LinesWritten (now (file .entry)) (index-of (now (file .entry)) (now (words .entry))) from start (now (types .entry)) (now (out .entry)) (now (demands .entry)) (now (types .exit)) (now (demands .exit)) (now (out .exit)) r ⌝ }
 {
     let count = records::question_count(words);
     let mut next = from;
+    let mut line = start;
     let mut at: usize = 0;
     while next < count {
-        match answer_line(file, words, types, demands, next, &mut out[at..]) {
+        match answer_line(file, words, types, demands, next, line, &mut out[at..]) {
             Step::NoRoom => {
-                return LinesAnswer::More(next, at);
+                return LinesAnswer::More(next, line, at);
             }
             Step::Line(n) => {
                 at += n;
+                line += 1;
+            }
+            Step::PastLast => {
+                next += 1;
+                line = 0;
             }
         }
-        next += 1;
     }
     LinesAnswer::End(at)
 }
@@ -241,10 +278,12 @@ fn are_long(records: usize, types: usize, places: usize, bytes: usize) -> bool
     true
 }
 
-// The question of a number, of a loaded file. A file that lacks it is refused with 5, and its words are zero.
+// The line of a question, both by their numbers, of a loaded file. A file that lacks the question is refused with 5, and its words are zero. Past the
+// last line the type words are zero.
 fn answer_loaded(
     file: &[u8],
     number: u32,
+    line: u32,
     words: &mut [u32],
     types: &mut [u32],
     demands: &mut [Place],
@@ -252,25 +291,32 @@ fn answer_loaded(
 ) -> LineAnswer
     requires { ⌜ HoldsFile (now file) (now words) (now types) (now demands) ⌝ }
     requires { ⌜ 4160 ≤ length (now out) ⌝ }
-    ensures { λ r. ⌜ ExactAnswered (now (file .entry)) number (now (types .entry)) (now (demands .entry)) (now (out .entry)) (now (words .exit)) (now (types .exit)) (now (demands .exit)) (now (out .exit)) r ⌝ }
+    ensures { λ r. ⌜ ExactAnswered (now (file .entry)) number line (now (types .entry)) (now (demands .entry)) (now (out .entry)) (now (words .exit)) (now (types .exit)) (now (demands .exit)) (now (out .exit)) r ⌝ }
 {
     match records::question_at(words, number) {
         FoundQuestion::Absent => {
             loader::clear(words);
             LineAnswer::FileRefused(5, 0)
         }
-        FoundQuestion::Found(question) => match answer_question(
-            file,
-            words,
-            types,
-            demands,
-            question,
-            out,
-        ) {
-            Asked::Line(n) => LineAnswer::Line(n),
-            Asked::Refused(refusal) => LineAnswer::Refused(refusal),
-            // No line is longer than the answer buffer.
-            Asked::NoRoom => LineAnswer::Refused(10),
+        FoundQuestion::Found(question) => match asked_at(question, line) {
+            FoundAsked::Past => {
+                type_table::clear(types);
+                demands::clear(demands);
+                LineAnswer::PastLast
+            }
+            FoundAsked::Found(asked) => match answer_asked(
+                file,
+                words,
+                types,
+                demands,
+                asked,
+                out,
+            ) {
+                Tried::Line(n) => LineAnswer::Line(n),
+                Tried::Refused(refusal) => LineAnswer::Refused(refusal, 0),
+                // No line is longer than the answer buffer.
+                Tried::NoRoom => LineAnswer::Refused(10, 0),
+            },
         },
     }
 }
@@ -279,6 +325,7 @@ fn answer_loaded(
 fn answer_exact(
     file: &[u8],
     number: u32,
+    line: u32,
     words: &mut [u32],
     types: &mut [u32],
     demands: &mut [Place],
@@ -286,18 +333,19 @@ fn answer_exact(
 ) -> LineAnswer
     requires { ⌜ Exact (now words) (now types) (now demands) ⌝ }
     requires { ⌜ 4160 ≤ length (now out) ⌝ }
-    ensures { λ r. ⌜ ExactAnswered (now (file .entry)) number (now (types .entry)) (now (demands .entry)) (now (out .entry)) (now (words .exit)) (now (types .exit)) (now (demands .exit)) (now (out .exit)) r ⌝ }
+    ensures { λ r. ⌜ ExactAnswered (now (file .entry)) number line (now (types .entry)) (now (demands .entry)) (now (out .entry)) (now (words .exit)) (now (types .exit)) (now (demands .exit)) (now (out .exit)) r ⌝ }
 {
     match loader::load(file, words) {
-        Loaded::Refused(refusal, line) => LineAnswer::FileRefused(refusal, line),
-        Loaded::Accepted => answer_loaded(file, number, words, types, demands, out),
+        Loaded::Refused(refusal, at) => LineAnswer::FileRefused(refusal, at),
+        Loaded::Accepted => answer_loaded(file, number, line, words, types, demands, out),
     }
 }
 
-// Loads a file and answers the question of a number. What each buffer holds behind it: `Answered` and `ShortAnswer` of specs/Promises.antt.
+// Loads a file and answers the question of a number by its line of a number, from 0. What each buffer holds behind it: `Answered` and `ShortAnswer` of specs/Promises.antt.
 pub fn answer(
     file: &[u8],
     number: u32,
+    line: u32,
     records: &mut [u32],
     types: &mut [u32],
     demands: &mut [Place],
@@ -306,7 +354,7 @@ pub fn answer(
     ensures short { λ r. ⌜ ((LongBuffers (buffers (now (records .entry)) (now (types .entry)) (now (demands .entry)) (now (out .entry))) → ⊥)
         → ShortAnswer (buffers (now (records .entry)) (now (types .entry)) (now (demands .entry)) (now (out .entry))) (buffers (now (records .exit)) (now (types .exit)) (now (demands .exit)) (now (out .exit))) r) ⌝ }
     ensures full { λ r. ⌜ (LongBuffers (buffers (now (records .entry)) (now (types .entry)) (now (demands .entry)) (now (out .entry)))
-        → Answered (now (file .entry)) number (buffers (now (records .entry)) (now (types .entry)) (now (demands .entry)) (now (out .entry))) (buffers (now (records .exit)) (now (types .exit)) (now (demands .exit)) (now (out .exit))) r) ⌝ }
+        → Answered (now (file .entry)) number line (buffers (now (records .entry)) (now (types .entry)) (now (demands .entry)) (now (out .entry))) (buffers (now (records .exit)) (now (types .exit)) (now (demands .exit)) (now (out .exit))) r) ⌝ }
 {
     if !are_long(records.len(), types.len(), demands.len(), out.len()) {
         return LineAnswer::FileRefused(1, 0);
@@ -314,6 +362,7 @@ pub fn answer(
     answer_exact(
         file,
         number,
+        line,
         &mut records[..loader::RECORD_WORDS],
         &mut types[..type_table::WORDS],
         &mut demands[..demands::PLACES],
@@ -325,6 +374,7 @@ pub fn answer(
 fn lines_exact(
     file: &[u8],
     from: u32,
+    line: u32,
     words: &mut [u32],
     types: &mut [u32],
     demands: &mut [Place],
@@ -332,25 +382,26 @@ fn lines_exact(
 ) -> LinesAnswer
     requires { ⌜ Exact (now words) (now types) (now demands) ⌝ }
     requires { ⌜ length (now out) ≡ 4160 ⌝ }
-    ensures { λ r. ⌜ ExactAnsweredFrom (now (file .entry)) from (now (types .entry)) (now (demands .entry)) (now (out .entry)) (now (words .exit)) (now (types .exit)) (now (demands .exit)) (now (out .exit)) r ⌝ }
+    ensures { λ r. ⌜ ExactAnsweredFrom (now (file .entry)) from line (now (types .entry)) (now (demands .entry)) (now (out .entry)) (now (words .exit)) (now (types .exit)) (now (demands .exit)) (now (out .exit)) r ⌝ }
 {
     match loader::load(file, words) {
-        Loaded::Refused(refusal, line) => LinesAnswer::FileRefused(refusal, line),
+        Loaded::Refused(refusal, at) => LinesAnswer::FileRefused(refusal, at),
         Loaded::Accepted => {
             if records::question_count(words) < from {
                 loader::clear(words);
                 return LinesAnswer::FileRefused(5, 0);
             }
-            answer_lines(file, words, types, demands, from, out)
+            answer_lines(file, words, types, demands, from, line, out)
         }
     }
 }
 
-// Loads a file and answers its questions from a number on: as many as have lines that fit into 4,160 bytes, and at least one if there is one.
-// `More` leaves the type words zero, since the next question was resolved before its line was seen to have no room: see `AnsweredFrom`.
+// Loads a file and answers its questions from a question's line on: as many lines as fit into 4,160 bytes, and at least one if there is one. Where the
+// question has no such line it goes on with the next. `More` leaves the type words zero, since the next line was resolved before it was seen to have no room: see `AnsweredFrom`.
 pub fn answer_from(
     file: &[u8],
     from: u32,
+    line: u32,
     records: &mut [u32],
     types: &mut [u32],
     demands: &mut [Place],
@@ -359,7 +410,7 @@ pub fn answer_from(
     ensures short { λ r. ⌜ ((LongBuffers (buffers (now (records .entry)) (now (types .entry)) (now (demands .entry)) (now (out .entry))) → ⊥)
         → ShortAnswers (buffers (now (records .entry)) (now (types .entry)) (now (demands .entry)) (now (out .entry))) (buffers (now (records .exit)) (now (types .exit)) (now (demands .exit)) (now (out .exit))) r) ⌝ }
     ensures full { λ r. ⌜ (LongBuffers (buffers (now (records .entry)) (now (types .entry)) (now (demands .entry)) (now (out .entry)))
-        → AnsweredFrom (now (file .entry)) from (buffers (now (records .entry)) (now (types .entry)) (now (demands .entry)) (now (out .entry))) (buffers (now (records .exit)) (now (types .exit)) (now (demands .exit)) (now (out .exit))) r) ⌝ }
+        → AnsweredFrom (now (file .entry)) from line (buffers (now (records .entry)) (now (types .entry)) (now (demands .entry)) (now (out .entry))) (buffers (now (records .exit)) (now (types .exit)) (now (demands .exit)) (now (out .exit))) r) ⌝ }
 {
     if !are_long(records.len(), types.len(), demands.len(), out.len()) {
         return LinesAnswer::FileRefused(1, 0);
@@ -367,6 +418,7 @@ pub fn answer_from(
     lines_exact(
         file,
         from,
+        line,
         &mut records[..loader::RECORD_WORDS],
         &mut types[..type_table::WORDS],
         &mut demands[..demands::PLACES],

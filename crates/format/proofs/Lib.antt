@@ -5,3 +5,4 @@ pub mod Enough
 pub mod Linked
 pub mod Growing
 pub mod Loaded
+pub mod Refused

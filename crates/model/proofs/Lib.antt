@@ -4,3 +4,4 @@ pub mod Places
 pub mod Search
 pub mod ReturnLoops
 pub mod ScopeChain
+pub mod Collected

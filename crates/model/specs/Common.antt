@@ -3,7 +3,7 @@ use Prim.Native.Nat.{ℕ, zero, suc, _+_}
 use Prim.Native.Char.{code}
 use Prim.Native.String.{String, [] as nil, _∷_ as _then_}
 use mathlib.Core.Bool.{Bool, true, false, _&&_, _||_}
-use mathlib.Core.List.{List, [], _∷_}
+use mathlib.Core.List.{List, [], _∷_, _++_}
 use mathlib.Core.Option.{Option, none, some}
 use lib.Dec.{eqb}
 
@@ -76,11 +76,21 @@ eq-numbers [] (y ∷ ys) = false
 eq-numbers (x ∷ xs) [] = false
 eq-numbers (x ∷ xs) (y ∷ ys) = elim (eqb x y) [ true ↦ eq-numbers xs ys | false ↦ false ]
 
+-- the answers that a function gives along a list
+unfoldable pub collect : {A B : Type 0} → (A → Option B) → List A → List B
+collect f [] = []
+collect f (x ∷ xs) = let-some (f x) (collect f xs) (λ y. y ∷ collect f xs)
+
 -- ------------------------------------------------------------------ texts
 
 -- a text is the list of its bytes
 abbrev pub Text : Type 0
 Text = List ℕ
+
+-- the texts of a list's elements, one behind the other
+unfoldable pub joined : {A : Type 0} → (A → Text) → List A → Text
+joined text [] = []
+joined text (x ∷ xs) = text x ++ joined text xs
 
 -- the bytes of a text of ASCII characters, as `bytes "assert"`
 abbrev pub bytes : String → Text

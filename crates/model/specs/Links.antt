@@ -3,7 +3,7 @@ use Prim.Native.Nat.{ℕ}
 use mathlib.Core.List.{List, [], _∷_, _++_, map}
 use mathlib.Core.Option.{Option, none, some}
 use Rattle.model.specs.Common.{let-some}
-use Rattle.model.specs.Records.{Name, Scope, TypeExpr, NameWithType, DefinitionKind, Definition, Origin, Expression, ExpressionInfo, Question, Index}
+use Rattle.model.specs.Records.{Name, Scope, TypeExpr, NameWithType, DefinitionKind, Definition, Origin, Expression, ExpressionInfo, Index}
 use Rattle.model.specs.Lookups.{module-at, scope-at, type-expr-at, definition-at, expression-at}
 
 -- ------------------------------------------------------------------ records by module and number
@@ -123,14 +123,3 @@ expression-definitions expression = link (expression .definition)
 
 abbrev pub expression-types : ExpressionInfo → List ℕ
 expression-types expression = link (expression .expected) ++ node-types (expression .node)
-
--- the module of a question, and the T that it names
-unfoldable pub question-module : Question → ℕ
-question-module (Question.expr m e context) = m
-question-module (Question.def m d) = m
-question-module (Question.type m t s) = m
-
-unfoldable pub question-types : Question → List ℕ
-question-types (Question.expr m e context) = link context
-question-types (Question.def m d) = []
-question-types (Question.type m t s) = t ∷ []

@@ -16,6 +16,7 @@ use Rattle.model.specs.WellFormed.{Present, WellFormed}
 use Rattle.model.proofs.Tests.{ltb-lt, ltb-false, some-of}
 use Rattle.model.proofs.Places.{getElem-there, getElem-below}
 use Rattle.format.proofs.Loaded.{loaded-well-formed}
+use Rattle.resolution.specs.Asked.{Asked}
 use Rattle.resolution.specs.Inside.{Body, IsBody, Inside, body-scope, below}
 use Rattle.resolution.specs.Secrecy.{StandsIn, FilesSupposed}
 
@@ -38,9 +39,9 @@ scope-below index m s k (scope, found) less =
     (x, ap (λ o. let-some o none (λ n. scope-at n k)) at ∙ here)
 
 -- where what is outside in the second index stands outside in the first, the first body has no lower number
-not-lower : (A B : Index) (a b : Body) (question : Question) → WellFormed B → IsBody B b → StandsIn B b A a question
+not-lower : (A B : Index) (a b : Body) (asked : Asked) → WellFormed B → IsBody B b → StandsIn B b A a asked
     → a .module-number ≡ b .module-number → a .scope-number < b .scope-number → ⊥
-not-lower A B a b question formed is-body stands one-module less =
+not-lower A B a b asked formed is-body stands one-module less =
     let (scope, found) = scope-below B (b .module-number) (b .scope-number) (a .scope-number) (is-body .scope, is-body .found) less in
     let (there, out) =
     stands .scopes (b .module-number) (a .scope-number)
@@ -51,16 +52,16 @@ not-lower A B a b question formed is-body stands one-module less =
     }) in
     out (body-scope (sym one-module) refl)
 
-pub bodies-have-one-number : (first-file second-file : Text) (first-place second-place : ℕ) (files : FilesSupposed first-file second-file first-place second-place)
+pub bodies-have-one-number : (first-file second-file : Text) (first-place second-place : ℕ) (question : Question) (asked : Asked) (files : FilesSupposed first-file second-file first-place second-place question asked)
     → files .first-body .module-number ≡ files .second-body .module-number → files .first-body .scope-number ≡ files .second-body .scope-number
-bodies-have-one-number first-file second-file first-place second-place files one-module =
+bodies-have-one-number first-file second-file first-place second-place question asked files one-module =
     neither-lower (files .first-body .scope-number) (files .second-body .scope-number)
-    (not-lower (files .first) (files .second) (files .first-body) (files .second-body) (files .question)
+    (not-lower (files .first) (files .second) (files .first-body) (files .second-body) asked
     (loaded-well-formed second-file (files .second) (files .second-loaded))
     (files .supposed .second-is-body)
     (files .supposed .agree .second-stands)
     one-module)
-    (not-lower (files .second) (files .first) (files .second-body) (files .first-body) (files .question)
+    (not-lower (files .second) (files .first) (files .second-body) (files .first-body) asked
     (loaded-well-formed first-file (files .first) (files .first-loaded))
     (files .supposed .first-is-body)
     (files .supposed .agree .first-stands)

@@ -1,5 +1,5 @@
 -- What demand 3 supposes of one index and a body in it, as tests that compute: which scopes are inside, that no link leads inside, which T count
--- as outside, that a question is about the outside; and what is outside, as a value that two indexes have in common. What each test says
+-- as outside, that a line is about the outside; and what is outside, as a value that two indexes have in common. What each test says
 -- where it passes. Assumes nothing.
 use Prim.Native.Nat.{ℕ, zero, suc}
 use mathlib.Core.Path.{_≡_, refl, sym, _∙_, ap, subst}
@@ -9,12 +9,13 @@ use mathlib.Core.Option.{Option, none, some}
 use lib.Dec.{eqb}
 use lib.ListN.{getElem?}
 use Rattle.model.specs.Common.{if_then_else_, let-some, any, every}
-use Rattle.model.specs.Records.{Name, ScopeKind, Scope, TypeExpr, Definition, Expression, ExpressionInfo, Module, Question, Index}
+use Rattle.model.specs.Records.{Name, ScopeKind, Scope, TypeExpr, Definition, Expression, ExpressionInfo, Module, Index}
 use Rattle.model.specs.Lookups.{module-at, scope-at, parent, chain-from, scope-chain, among}
-use Rattle.model.specs.Links.{scope-in, type-in, definition-in, expression-in, link, type-types, definition-types, definition-expressions, expression-types, expression-definitions, expression-expressions, question-module, question-types}
+use Rattle.model.specs.Links.{scope-in, type-in, definition-in, expression-in, link, type-types, definition-types, definition-expressions, expression-types, expression-definitions, expression-expressions}
 use Rattle.model.specs.WellFormed.{Present, WellFormed}
 use Rattle.model.proofs.Tests.{and-left, and-right, or-right, under, not-true, eqb-sound, eqb-self, none≢some, some-injective, some-of}
 use Rattle.model.proofs.ScopeChain.{scope-chain-step}
+use Rattle.resolution.specs.Asked.{Asked, asked-module, asked-types}
 use Rattle.resolution.specs.Inside.{Body, IsBody, Inside, body-scope, below, OutsideScope, OutsideDefinition, OutsideExpression, OutsideType, definition-names, expression-names, type-names, question-names, NothingLinksInside, AboutOutside}
 use Rattle.resolution.specs.Secrecy.{NoOutsideLiteralInBinary}
 
@@ -276,7 +277,7 @@ module _ (index : Index) (b : BodyScopes) where
       && (children-test
       && (literals-test && (definition-types-test types && (expression-types-test types && type-types-test types)))))))
 
-  -- what a question names is there, and outside
+  -- what a line is about is there, and outside
   abbrev expression-there : ℕ → ℕ → Bool
   expression-there m e = let-some (expression-in index m e) false λ x. not (in-body b m (x .scope))
 
@@ -289,20 +290,20 @@ module _ (index : Index) (b : BodyScopes) where
   abbrev type-there : ℕ → ℕ → Bool
   type-there m t = let-some (type-in index m t) false λ type. true
 
-  -- `AboutOutside`, a clause for each kind of question
-  unfoldable pub about-test : Question → Bool
-  about-test (Question.expr m e none) = expression-there m e
-  about-test (Question.expr m e (some t)) = expression-there m e && type-there m t
-  about-test (Question.def m d) = definition-there m d
-  about-test (Question.type m t s) = type-there m t && scope-there m s
+  -- `AboutOutside`, a clause for each kind of line
+  unfoldable pub about-test : Asked → Bool
+  about-test (Asked.expr m e none) = expression-there m e
+  about-test (Asked.expr m e (some t)) = expression-there m e && type-there m t
+  about-test (Asked.def m d) = definition-there m d
+  about-test (Asked.type m t s) = type-there m t && scope-there m s
 
   -- with its T listed
-  unfoldable pub question-test : Types → Question → Bool
-  question-test types question = about-test question && every (listed types (question-module question)) (question-types question)
+  unfoldable pub asked-test : Types → Asked → Bool
+  asked-test types asked = about-test asked && every (listed types (asked-module asked)) (asked-types asked)
 
 -- one name that opens every test
 unfoldable pub tests : Unit {0}
-unfolding in-body outside-of function-test inside-test values-test recorded-test children-test literals-test definition-types-test expression-types-test type-types-test body-test about-test question-test
+unfolding in-body outside-of function-test inside-test values-test recorded-test children-test literals-test definition-types-test expression-types-test type-types-test body-test about-test asked-test asked-module asked-types
 tests = tt
 
 -- ------------------------------------------------------------------ the body
@@ -520,27 +521,27 @@ module _ (index : Index) (b : BodyScopes) (types : Types) (good : Tested index b
   -- ---------------------------------------------------------------- the T
 
   -- what counts as outside is listed
-  pub type-listed : (question : Question) → every (listed types (question-module question)) (question-types question) ≡ true
-      → {m t : ℕ} → OutsideType index (b .body) question m t → listed types m t ≡ true
+  pub type-listed : (asked : Asked) → every (listed types (asked-module asked)) (asked-types asked) ≡ true
+      → {m t : ℕ} → OutsideType index (b .body) asked m t → listed types m t ≡ true
   unfolding definition-types-test expression-types-test type-types-test
-  type-listed question asked {m} {t} (definition-names {d = d} outside named) =
+  type-listed asked named-listed {m} {t} (definition-names {d = d} outside named) =
       every-of (listed types m) (definition-types (outside .definition .kind)) t
       (outside-definition-tested (λ k x. every (listed types k) (definition-types (x .kind))) (good .definition-closed) m d outside)
       named
-  type-listed question asked {m} {t} (expression-names {e = e} outside named) =
+  type-listed asked named-listed {m} {t} (expression-names {e = e} outside named) =
       every-of (listed types m) (expression-types (outside .expression)) t
       (outside-expression-tested (λ k x. every (listed types k) (expression-types x)) (good .expression-closed) m e outside)
       named
-  type-listed question asked {m} {t = u} (type-names {t = t} {type = type} holder found named) =
+  type-listed asked named-listed {m} {t = u} (type-names {t = t} {type = type} holder found named) =
       every-of (listed types m) (type-types type) u
       (under (listed types m t) (every (listed types m) (type-types type))
       (type-tested (λ k n x. not (listed types k n) || every (listed types k) (type-types x)) (good .type-closed) m t type found)
-      (type-listed question asked holder))
+      (type-listed asked named-listed holder))
       named
-  type-listed question asked {m} {t} (question-names m-of named) =
-      ap (λ k. listed types k t) m-of ∙ every-of (listed types (question-module question)) (question-types question) t asked named
+  type-listed asked named-listed {m} {t} (question-names m-of named) =
+      ap (λ k. listed types k t) m-of ∙ every-of (listed types (asked-module asked)) (asked-types asked) t named-listed named
 
-  -- ---------------------------------------------------------------- the question
+  -- ---------------------------------------------------------------- what the line is about
 
   expression-about : (m e : ℕ) → expression-there index b m e ≡ true → OutsideExpression index (b .body) m e
   expression-about m e h = of (expression-in index m e) refl h
@@ -570,13 +571,13 @@ module _ (index : Index) (b : BodyScopes) (types : Types) (good : Tested index b
       of none at k = absurd (false≢true k)
       of (some x) at k = (x, at)
 
-  pub about : (question : Question) → about-test index b question ≡ true → AboutOutside index (b .body) question
+  pub about : (asked : Asked) → about-test index b asked ≡ true → AboutOutside index (b .body) asked
   unfolding about-test
-  about (Question.expr m e none) h = expression-about m e h
-  about (Question.expr m e (some t)) h =
+  about (Asked.expr m e none) h = expression-about m e h
+  about (Asked.expr m e (some t)) h =
       (expression-about m e (and-left (expression-there index b m e) _ h), type-about m t (and-right (expression-there index b m e) _ h))
-  about (Question.def m d) h = definition-about m d h
-  about (Question.type m t s) h = (type-about m t (and-left (type-there index b m t) _ h), scope-about m s (and-right (type-there index b m t) _ h))
+  about (Asked.def m d) h = definition-about m d h
+  about (Asked.type m t s) h = (type-about m t (and-left (type-there index b m t) _ h), scope-about m s (and-right (type-there index b m t) _ h))
 
 -- ------------------------------------------------------------------ what is outside
 

@@ -11,6 +11,7 @@ pub mod Found
 pub mod FoundBySearch
 pub mod SameLookups
 pub mod SamePrograms
+pub mod AskedLaws
 pub mod Secrecy
 pub mod ByQuestion
 pub mod LineFits

@@ -1,24 +1,27 @@
--- Every answer line of a file that loading accepts fits the answer buffer of 4,160 bytes. Assumes nothing.
+-- Every answer line of a file that loading accepts fits the answer buffer of 4,160 bytes, and a refusal on it is at most 10. Assumes nothing.
 use Prim.Native.Nat.{ℕ, zero, suc, _+_, _*_, _/_, _%_, _≤_, _<_}
 use native.Mathlib.Omega.{arith}
-use mathlib.Core.Path.{_≡_, refl}
+use mathlib.Core.Path.{_≡_, refl, sym, subst}
 use mathlib.Core.Bool.{Bool, true, false}
 use mathlib.Core.List.{[], _∷_, _++_}
-use mathlib.Core.Option.{some}
+use mathlib.Core.Option.{Option, none, some}
 use lib.Dec.{ltb, leb}
 use lib.ListN.{length, getElem?, length-append}
-use Rattle.model.specs.Common.{Text, if_then_else_, bytes}
+use Rattle.model.specs.Common.{Text, if_then_else_, let-some, bytes}
 use Rattle.model.specs.Records.{Question, Index}
-use Rattle.format.specs.Load.{accepted, load}
-use Rattle.resolution.specs.Types.{first-table}
-use Rattle.resolution.specs.Run.{Outcome, answered, refused, resolve-question}
-use Rattle.resolution.specs.Answer.{decimal-digits, decimal, type-text, Verdict, max-text, text-verdict, outcome-verdict, verdict, question-lead, verdict-fields, answer-line}
-use Rattle.resolution.specs.TableOk.{Below, OutcomeOk}
-use Rattle.resolution.proofs.SafePrograms.{question-ok}
 use Rattle.model.specs.Limits.{max-number, answer-bytes}
-use Rattle.model.specs.WellFormed.{QuestionNumbers}
-use Rattle.model.proofs.Tests.{leb-le, ltb-false}
+use Rattle.model.proofs.Tests.{leb-le, ltb-false, none≢some, some-injective}
+use Rattle.model.proofs.Collected.{collected-from}
+use Rattle.format.specs.Load.{accepted, load}
 use Rattle.format.proofs.Loaded.{loaded-well-formed}
+use Rattle.resolution.specs.Types.{Table, first-table}
+use Rattle.resolution.specs.Asked.{Asked, question-asked}
+use Rattle.resolution.specs.Programs.{Said}
+use Rattle.resolution.specs.Run.{Outcome, answered, refused, resolve-asked}
+use Rattle.resolution.specs.Answer.{decimal-digits, decimal, type-text, Verdict, max-text, text-verdict, said-verdict, outcome-verdict, verdict, lead-of, asked-lead, verdict-fields, Line, line-text, asked-line, question-lines}
+use Rattle.resolution.specs.TableOk.{SaidOk, OutcomeOk}
+use Rattle.resolution.proofs.SafePrograms.{asked-ok}
+use Rattle.resolution.proofs.AskedLaws.{line-about, AskedNumbers, asked-numbers}
 
 -- ------------------------------------------------------------------ numbers
 
@@ -58,20 +61,20 @@ decimal-two n h = more-digits 1 10 one-digit n (omega arith) (suc n)
 append-le : (xs ys : Text) (a b : ℕ) → length xs ≤ a → length ys ≤ b → length (xs ++ ys) ≤ a + b
 append-le xs ys a b h k = omega (arith, length-append xs ys)
 
-lead-of : (word : Text) (m n : ℕ) → length word ≤ 5 → m ≤ max-number → n ≤ max-number → length (word ++ (decimal m ++ (bytes "\t" ++ (decimal n ++ bytes "\t")))) ≤ 17
-lead-of word m n h hm hn =
-    append-le word (decimal m ++ (bytes "\t" ++ (decimal n ++ bytes "\t"))) 5 12 h
-    (append-le (decimal m) (bytes "\t" ++ (decimal n ++ bytes "\t")) 5 7 (decimal-five m hm)
-    (append-le (bytes "\t") (decimal n ++ bytes "\t") 1 6 (omega arith) (append-le (decimal n) (bytes "\t") 5 1 (decimal-five n hn) (omega arith))))
+lead-fits-of : (word a b : Text) (most-a most-b : ℕ) → length word ≤ 6 → length a ≤ most-a → length b ≤ most-b → length (lead-of word a b) ≤ 9 + (most-a + most-b)
+unfolding lead-of
+lead-fits-of word a b most-a most-b h ha hb =
+    omega (arith, length-append word (bytes "\t" ++ (a ++ (bytes "\t" ++ (b ++ bytes "\t")))), length-append a (bytes "\t" ++ (b ++ bytes "\t")), length-append b (bytes "\t"))
 
-lead-fits : (question : Question) → QuestionNumbers question → length (question-lead question) ≤ 17
-unfolding question-lead
-lead-fits (Question.expr m e context) (hm, he) = lead-of (bytes "expr\t") m e (omega arith) hm he
-lead-fits (Question.def m d) (hm, hd) = lead-of (bytes "def\t") m d (omega arith) hm hd
-lead-fits (Question.type m t s) (hm, ht) = lead-of (bytes "type\t") m t (omega arith) hm ht
+lead-fits : (asked : Asked) → AskedNumbers asked → length (asked-lead asked) ≤ 19
+unfolding asked-lead
+lead-fits (Asked.expr m e context) (hm, he) = lead-fits-of (bytes "expr") (decimal m) (decimal e) 5 5 (omega arith) (decimal-five m hm) (decimal-five e he)
+lead-fits (Asked.def m d) (hm, hd) = lead-fits-of (bytes "def") (decimal m) (decimal d) 5 5 (omega arith) (decimal-five m hm) (decimal-five d hd)
+lead-fits (Asked.type m t s) (hm, ht) = lead-fits-of (bytes "type") (decimal m) (decimal t) 5 5 (omega arith) (decimal-five m hm) (decimal-five t ht)
 
-abbrev Fits : Verdict → Type 0
+abbrev pub Fits : Verdict → Type 0
 Fits (Verdict.typed text) = length text ≤ max-text
+Fits (Verdict.worded word) = length word ≤ 5
 Fits (Verdict.refused n) = n ≤ 10
 
 text-fits : (text : Text) → Fits (text-verdict text)
@@ -82,23 +85,53 @@ text-fits text = at-test (leb (length text) max-text) refl
     at-test true e = leb-le (length text) max-text e
     at-test false e = omega arith
 
-outcome-fits : (o : Outcome ℕ) → OutcomeOk Below first-table o → Fits (outcome-verdict o)
+said-fits : (table : Table) (said : Said) → SaidOk table said → (v : Verdict) → said-verdict table said ≡ some v → Fits v
+unfolding said-verdict
+said-fits table (Said.type t) ok v e = subst Fits (some-injective e) (text-fits (type-text table t))
+said-fits table (Said.word word) ok v e = subst Fits (some-injective e) ok
+said-fits table Said.nothing ok v e = absurd (none≢some e)
+
+outcome-fits : (o : Outcome Said) → OutcomeOk SaidOk first-table o → (v : Verdict) → outcome-verdict o ≡ some v → Fits v
 unfolding outcome-verdict
-outcome-fits (answered t table) ok = text-fits (type-text table t)
-outcome-fits (refused n) ok = omega arith
+outcome-fits (answered said table) ok v e = said-fits table said (ok .2) v e
+outcome-fits (refused n) ok v e = subst Fits (some-injective e) (few (ok .1))
+  where
+    few : n ≤ 9 → n ≤ 10
+    few h = omega (arith, h)
 
 fields-fit : (v : Verdict) → Fits v → length (verdict-fields v) ≤ 4102
 unfolding verdict-fields
 fields-fit (Verdict.typed text) h = append-le (bytes "type\t") (text ++ bytes "\n") 5 4097 (omega arith) (append-le text (bytes "\n") 4096 1 h (omega arith))
+fields-fit (Verdict.worded word) h = omega (arith, h, length-append word (bytes "\n"))
 fields-fit (Verdict.refused n) h =
     let few : length (bytes "refused\t" ++ (decimal n ++ bytes "\n")) ≤ 8 + 3 = append-le (bytes "refused\t") (decimal n ++ bytes "\n") 8 3 (omega arith) (append-le (decimal n) (bytes "\n") 2 1 (decimal-two n h) (omega arith)) in
     omega arith
 
+-- what the line about it says, whatever is asked
+asked-verdict-fits : (index : Index) (asked : Asked) (line : Line) → asked-line index asked ≡ some line → Fits (line .verdict)
+unfolding asked-line verdict
+asked-verdict-fits index asked line e = go (outcome-verdict (resolve-asked index asked)) refl e
+  where
+    go : (o : Option Verdict) → outcome-verdict (resolve-asked index asked) ≡ o → let-some o none (λ v. some (record { asked = asked; verdict = v })) ≡ some line → Fits (line .verdict)
+    go none h k = absurd (none≢some k)
+    go (some v) h k = subst (λ (l : Line). Fits (l .verdict)) (some-injective k) (outcome-fits (resolve-asked index asked) (asked-ok index asked) v h)
+
+pub verdict-fits : (index : Index) (question : Question) (number : ℕ) (line : Line) → getElem? (question-lines index question) number ≡ some line → Fits (line .verdict)
+unfolding question-lines
+verdict-fits index question number line e =
+    let (about, mem, h) = collected-from (asked-line index) (question-asked index question) number e in asked-verdict-fits index about line h
+
+-- the line about what is asked, if its numbers fit
+asked-fits : (index : Index) (asked : Asked) → AskedNumbers asked → (line : Line) → asked-line index asked ≡ some line → length (line-text line) ≤ answer-bytes
+unfolding line-text
+asked-fits index asked numbers line e =
+    let lead : length (asked-lead (line .asked)) ≤ 19 = subst (λ a. length (asked-lead a) ≤ 19) (sym (line-about index asked line e)) (lead-fits asked numbers) in
+    omega (arith, append-le (asked-lead (line .asked)) (verdict-fields (line .verdict)) 19 4102 lead (fields-fit (line .verdict) (asked-verdict-fits index asked line e)))
+
 pub line-fits : (file : Text) (index : Index) (place : ℕ) (question : Question) → load file ≡ accepted index → getElem? (index .questions) place ≡ some question
-    → length (answer-line index question) ≤ answer-bytes
-unfolding answer-line verdict
-line-fits file index place question loaded asked =
-    let lead = lead-fits question (loaded-well-formed file index loaded .question-numbers place question asked) in
-    let fields = fields-fit (outcome-verdict (resolve-question index question)) (outcome-fits (resolve-question index question) (question-ok index question)) in
-    let all = append-le (question-lead question) (verdict-fields (outcome-verdict (resolve-question index question))) 17 4102 lead fields in
-    omega arith
+    → (number : ℕ) (line : Line) → getElem? (question-lines index question) number ≡ some line → length (line-text line) ≤ answer-bytes
+unfolding question-lines
+line-fits file index place question loaded asked number line e =
+    let formed = loaded-well-formed file index loaded in
+    let (about, mem, h) = collected-from (asked-line index) (question-asked index question) number e in
+    asked-fits index about (asked-numbers index formed question (formed .question-numbers place question asked) about mem) line h

@@ -10,10 +10,11 @@ use lib.ListN.{getElem?}
 use Rattle.model.specs.Common.{let-some, tabs, every}
 use Rattle.model.specs.Records.{Name, TypeExpr, Module, Question, Index}
 use Rattle.model.specs.Lookups.{module-at}
-use Rattle.model.specs.Links.{module-name, scope-in, type-in, definition-in, expression-in, question-module, question-types}
+use Rattle.model.specs.Links.{module-name, scope-in, type-in, definition-in, expression-in}
 use Rattle.model.proofs.Tests.{and-left, and-right}
 use Rattle.format.specs.Load.{Loading, accepted, refused, load}
 use Rattle.format.proofs.Loaded.{loaded-well-formed}
+use Rattle.resolution.specs.Asked.{Asked, asked-module, asked-types, Asks}
 use Rattle.resolution.specs.Inside.{Inside, OutsideScope, OutsideDefinition, OutsideExpression, OutsideType, definition-names, expression-names, type-names, question-names}
 use Rattle.resolution.specs.Secrecy.{StandsIn, Supposed, FilesSupposedAsWorded, SameLine}
 use Rattle.resolution.proofs.BodyTest.{
@@ -31,7 +32,7 @@ use Rattle.resolution.proofs.BodyTest.{
   outside-of,
   body-test,
   about-test,
-  question-test,
+  asked-test,
   Tested,
   tested,
   not-inside,
@@ -98,15 +99,15 @@ module _ (A B : Index) (a b : BodyScopes) (types : Types) (A-tested : Tested A a
       (outside-true A a types A-tested m (outside .expression .scope) (outside .not-inside)) in
       (found, not-inside B b types B-tested out)
 
-  module _ (question : Question) (asked : every (listed types (question-module question)) (question-types question) ≡ true) where
-    type-same : (m t : ℕ) (type : TypeExpr) → OutsideType A (a .body) question m t → type-in A m t ≡ some type → type-in B m t ≡ some type
+  module _ (asked : Asked) (named-listed : every (listed types (asked-module asked)) (asked-types asked) ≡ true) where
+    type-same : (m t : ℕ) (type : TypeExpr) → OutsideType A (a .body) asked m t → type-in A m t ≡ some type → type-in B m t ≡ some type
     type-same m t type outside found =
         let (there, out) =
         record-same (λ r. r .types) (λ o. o .types) (λ k n x. listed types k n) (λ k n x. listed types k n) (λ k r. refl) (λ k r. refl) m t type found
-        (type-listed A a types A-tested question asked outside) in
+        (type-listed A a types A-tested asked named-listed outside) in
         there
 
-    type-outside : {m t : ℕ} → OutsideType A (a .body) question m t → OutsideType B (b .body) question m t
+    type-outside : {m t : ℕ} → OutsideType A (a .body) asked m t → OutsideType B (b .body) asked m t
     type-outside {m} (definition-names {d = d} outside named) =
         let (found, out) = definitions-same m d outside in definition-names (record { definition = outside .definition; found = found; not-inside = out }) named
     type-outside {m} (expression-names {e = e} outside named) =
@@ -114,7 +115,7 @@ module _ (A B : Index) (a b : BodyScopes) (types : Types) (A-tested : Tested A a
     type-outside {m} (type-names {t = t} {type = type} holder found named) = type-names (type-outside holder) (type-same m t type holder found) named
     type-outside (question-names m-of named) = question-names m-of named
 
-    stands : StandsIn A (a .body) B (b .body) question
+    stands : StandsIn A (a .body) B (b .body) asked
     stands =
         record {
           modules = modules-same;
@@ -127,23 +128,23 @@ module _ (A B : Index) (a b : BodyScopes) (types : Types) (A-tested : Tested A a
 -- ------------------------------------------------------------------ two indexes
 
 supposed : (A B : Index) (a b : BodyScopes) (types : Types) → Tested A a types → Tested B b types → outside-of A a types ≡ outside-of B b types
-    → (question : Question) → question-test A a types question ≡ true → question-test B b types question ≡ true → Supposed A B (a .body) (b .body) question
-unfolding question-test outside-of
-supposed A B a b types A-tested B-tested same question A-asked B-asked =
-    let listed-types = and-right (about-test A a question) _ A-asked in
+    → (asked : Asked) → asked-test A a types asked ≡ true → asked-test B b types asked ≡ true → Supposed A B (a .body) (b .body) asked
+unfolding asked-test outside-of
+supposed A B a b types A-tested B-tested same asked A-asked B-asked =
+    let listed-types = and-right (about-test A a asked) _ A-asked in
     record {
       first-is-body = A-tested .is-body;
       second-is-body = B-tested .is-body;
       agree =
           record {
             one-version = ap (λ o. o .version) same;
-            first-stands = stands A B a b types A-tested B-tested same question listed-types;
-            second-stands = stands B A b a types B-tested A-tested (sym same) question listed-types;
+            first-stands = stands A B a b types A-tested B-tested same asked listed-types;
+            second-stands = stands B A b a types B-tested A-tested (sym same) asked listed-types;
           };
       first-no-links = no-links A a types A-tested;
       second-no-links = no-links B b types B-tested;
-      first-about = about A a types A-tested question (and-left (about-test A a question) _ A-asked);
-      second-about = about B b types B-tested question (and-left (about-test B b question) _ B-asked);
+      first-about = about A a types A-tested asked (and-left (about-test A a asked) _ A-asked);
+      second-about = about B b types B-tested asked (and-left (about-test B b asked) _ B-asked);
     }
 
 -- ------------------------------------------------------------------ two files
@@ -191,14 +192,14 @@ file-tested file body types h =
     tested (index-in file) body types (loaded-well-formed (tabs file) (index-in file) (file-loaded file body types h))
     (and-right (is-accepted (load (tabs file))) _ h)
 
--- what demand 3 supposes, of a question that is about the outside and stands in both files at these places
-pub pair-supposed : (pair : Pair) (question : Question) (first-place second-place : ℕ) → Agreeing pair
-    → question-test (index-in (pair .first-file)) (pair .first-body) (pair .types) question ≡ true
-    → question-test (index-in (pair .second-file)) (pair .second-body) (pair .types) question ≡ true
+-- what demand 3 supposes, of a question that stands in both files at these places and asks something about the outside
+pub pair-supposed : (pair : Pair) (question : Question) (asked : Asked) (first-place second-place : ℕ) → Agreeing pair → Asks question asked
+    → asked-test (index-in (pair .first-file)) (pair .first-body) (pair .types) asked ≡ true
+    → asked-test (index-in (pair .second-file)) (pair .second-body) (pair .types) asked ≡ true
     → getElem? (index-in (pair .first-file) .questions) first-place ≡ some question
     → getElem? (index-in (pair .second-file) .questions) second-place ≡ some question
-    → FilesSupposedAsWorded (tabs (pair .first-file)) (tabs (pair .second-file)) first-place second-place
-pair-supposed pair question first-place second-place agreeing first-test second-test first-asked second-asked =
+    → FilesSupposedAsWorded (tabs (pair .first-file)) (tabs (pair .second-file)) first-place second-place question asked
+pair-supposed pair question asked first-place second-place agreeing asks first-test second-test first-asked second-asked =
     let A-tested = file-tested (pair .first-file) (pair .first-body) (pair .types) (agreeing .first-test) in
     let B-tested = file-tested (pair .second-file) (pair .second-body) (pair .types) (agreeing .second-test) in
     record {
@@ -208,13 +209,13 @@ pair-supposed pair question first-place second-place agreeing first-test second-
             second = index-in (pair .second-file);
             first-loaded = file-loaded (pair .first-file) (pair .first-body) (pair .types) (agreeing .first-test);
             second-loaded = file-loaded (pair .second-file) (pair .second-body) (pair .types) (agreeing .second-test);
-            question = question;
             first-asked = first-asked;
             second-asked = second-asked;
+            asks = asks;
             first-body = pair .first-body .body;
             second-body = pair .second-body .body;
             supposed =
-                supposed (index-in (pair .first-file)) (index-in (pair .second-file)) (pair .first-body) (pair .second-body) (pair .types) A-tested B-tested (agreeing .same) question
+                supposed (index-in (pair .first-file)) (index-in (pair .second-file)) (pair .first-body) (pair .second-body) (pair .types) A-tested B-tested (agreeing .same) asked
                 first-test
                 second-test;
           };
@@ -223,12 +224,12 @@ pair-supposed pair question first-place second-place agreeing first-test second-
     }
 
 -- and so the same line
-pub pair-same : (pair : Pair) (question : Question) (first-place second-place : ℕ) → Agreeing pair
-    → question-test (index-in (pair .first-file)) (pair .first-body) (pair .types) question ≡ true
-    → question-test (index-in (pair .second-file)) (pair .second-body) (pair .types) question ≡ true
+pub pair-same : (pair : Pair) (question : Question) (asked : Asked) (first-place second-place : ℕ) → Agreeing pair → Asks question asked
+    → asked-test (index-in (pair .first-file)) (pair .first-body) (pair .types) asked ≡ true
+    → asked-test (index-in (pair .second-file)) (pair .second-body) (pair .types) asked ≡ true
     → getElem? (index-in (pair .first-file) .questions) first-place ≡ some question
     → getElem? (index-in (pair .second-file) .questions) second-place ≡ some question
-    → SameLine (tabs (pair .first-file)) (tabs (pair .second-file)) first-place second-place
-pair-same pair question first-place second-place agreeing first-test second-test first-asked second-asked =
-    demand-three (tabs (pair .first-file)) (tabs (pair .second-file)) first-place second-place
-    (pair-supposed pair question first-place second-place agreeing first-test second-test first-asked second-asked)
+    → SameLine (tabs (pair .first-file)) (tabs (pair .second-file)) first-place second-place question asked
+pair-same pair question asked first-place second-place agreeing asks first-test second-test first-asked second-asked =
+    demand-three (tabs (pair .first-file)) (tabs (pair .second-file)) first-place second-place question asked
+    (pair-supposed pair question asked first-place second-place agreeing asks first-test second-test first-asked second-asked)

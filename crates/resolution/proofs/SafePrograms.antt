@@ -6,12 +6,13 @@ use mathlib.Core.List.{List, [], _∷_, List·Memᴰ·head, List·Memᴰ·tail}
 use mathlib.Core.Option.{Option, none, some}
 use lib.Dec.{eqb, lit<, lit≤}
 use lib.ListN.{length, getElem?}
-use Rattle.model.specs.Records.{Name, TypeExpr, DefinitionKind, Origin, UnaryOp, BinaryOp, Expression, ExpressionInfo, Module, Question, Index}
+use Rattle.model.specs.Records.{Name, TypeExpr, DefinitionKind, Origin, UnaryOp, BinaryOp, Expression, ExpressionInfo, Module, Index}
 use Rattle.model.specs.Links.{field-types}
 use Rattle.resolution.specs.TypeData.{TypeData}
 use Rattle.model.specs.Limits.{max-open-demands}
 use Rattle.resolution.specs.Types.{Table, first-table, felt, bool, u32, unknown, error, unit}
-use Rattle.resolution.specs.Programs.{Demand, Answer, done, enter, look, if_then_else_, _>>=_}
+use Rattle.resolution.specs.Asked.{Asked}
+use Rattle.resolution.specs.Programs.{Demand, Answer, Program, done, enter, look, if_then_else_, _>>=_}
 use Rattle.resolution.specs.Views.{typed-fields, right-first, numeric-context, element-contexts, element-hint}
 use Rattle.resolution.specs.TypeResolution.{
   resolve-all,
@@ -60,10 +61,12 @@ use Rattle.resolution.specs.TypeResolution.{
   node-type,
   expression-program,
   program,
-  question-program,
+  expression-in-context,
+  says-type,
+  asked-program,
 }
-use Rattle.resolution.specs.Run.{Outcome, refused, run, is-open, demand, resolve-question}
-use Rattle.resolution.specs.TableOk.{row-types, TableOk, Below, OptionBelow, DemandOk, AnswerOk, OutcomeOk}
+use Rattle.resolution.specs.Run.{Outcome, refused, run, is-open, demand, resolve-asked}
+use Rattle.resolution.specs.TableOk.{row-types, TableOk, Below, OptionBelow, DemandOk, AnswerOk, SaidOk, OutcomeOk}
 use Rattle.resolution.proofs.Steady.{compatible-later}
 use Rattle.resolution.proofs.Tables.{extends-below, base-below, first-table-ok}
 use Rattle.resolution.proofs.Safe.{Safe, safe-done, safe-refuse, safe-look, HandlerOk, run-safe, safe-bind, safe-let-some, safe-if, safe-asked, safe-entered, known}
@@ -524,18 +527,26 @@ demand-ok (suc free) index open-demands d table ok h =
     go true o good = (lit≤ tt, lit≤ tt)
     go false o good = good
 
-pub question-safe : {table : Table} → TableOk table → (index : Index) (question : Question) → Safe Below table (question-program index question)
-unfolding question-program
-question-safe ok index (Question.expr m e none) = safe-asked (Demand.expression m e none) tt
-question-safe ok index (Question.expr m e (some t)) =
+pub says-type-safe : {table : Table} → TableOk table → {p : Program ℕ} → Safe Below table p → Safe SaidOk table (says-type p)
+unfolding says-type
+says-type-safe ok h = safe-bind ok h λ after ok₁ x t good. safe-done good
+
+in-context-safe : {table : Table} → TableOk table → (index : Index) (m e t : ℕ) → Safe Below table (expression-in-context index m e t)
+unfolding expression-in-context
+in-context-safe ok index m e t =
     safe-let-some _ (safe-error ok) λ the-module e′.
     safe-let-some _ (safe-error ok) λ info e″.
     safe-bind ok (safe-asked (Demand.type m t (info .scope)) tt) λ after ok₁ x context good.
     safe-asked (Demand.expression m e (some context)) good
-question-safe ok index (Question.def m d) = safe-asked (Demand.definition m d) tt
-question-safe ok index (Question.type m t s) = safe-asked (Demand.type m t s) tt
 
-pub question-ok : (index : Index) (question : Question) → OutcomeOk Below first-table (resolve-question index question)
-unfolding resolve-question
-question-ok index question =
-    run-safe Below (demand max-open-demands index []) (demand-ok max-open-demands index []) (question-safe first-table-ok index question) first-table-ok
+pub asked-safe : {table : Table} → TableOk table → (index : Index) (asked : Asked) → Safe SaidOk table (asked-program index asked)
+unfolding asked-program
+asked-safe ok index (Asked.expr m e none) = says-type-safe ok (safe-asked (Demand.expression m e none) tt)
+asked-safe ok index (Asked.expr m e (some t)) = says-type-safe ok (in-context-safe ok index m e t)
+asked-safe ok index (Asked.def m d) = says-type-safe ok (safe-asked (Demand.definition m d) tt)
+asked-safe ok index (Asked.type m t s) = says-type-safe ok (safe-asked (Demand.type m t s) tt)
+
+pub asked-ok : (index : Index) (asked : Asked) → OutcomeOk SaidOk first-table (resolve-asked index asked)
+unfolding resolve-asked
+asked-ok index asked =
+    run-safe SaidOk (demand max-open-demands index []) (demand-ok max-open-demands index []) (asked-safe first-table-ok index asked) first-table-ok

@@ -6,7 +6,7 @@ use mathlib.Core.List.{List, [], _∷_, List·Memᴰ, List·Memᴰ·head, Memᴰ
 use mathlib.Core.Option.{Option, none, some}
 use lib.Dec.{eqb}
 use Rattle.model.specs.Common.{let-some, is-none, first-some, any, eq-numbers}
-use Rattle.model.specs.Records.{Name, ScopeKind, Scope, TypeExpr, DefinitionKind, Definition, Module, Question, Index}
+use Rattle.model.specs.Records.{Name, ScopeKind, Scope, TypeExpr, DefinitionKind, Definition, Module, Index}
 use Rattle.model.specs.Lookups.{
   module-at,
   scope-at,
@@ -40,6 +40,7 @@ use Rattle.model.specs.Links.{module-name, scope-in, type-in, definition-in, li
 use Rattle.model.specs.WellFormed.{Present, LinksLead, WellFormed}
 use Rattle.model.proofs.Tests.{bool-same, and-left, and-right, eqb-sound, none≢some, some-injective}
 use Rattle.model.proofs.Search.{passes, passes-some, some-passes}
+use Rattle.resolution.specs.Asked.{Asked}
 use Rattle.resolution.specs.Inside.{Body, IsBody, Inside, body-scope, below, OutsideScope, OutsideDefinition, OutsideExpression, OutsideType, NothingLinksInside}
 use Rattle.resolution.specs.Secrecy.{Supposed}
 use Rattle.resolution.proofs.Found.{Found, neither, both, found-by, found-or-else}
@@ -146,16 +147,16 @@ named-module (some the-module) name e = (the-module, refl, some-injective e)
 -- ------------------------------------------------------------------ two indexes that agree
 
 -- two accepted indexes of which demand 3 supposes what it supposes
-pub record Hidden (first second : Index) (first-body second-body : Body) (question : Question) : Type 0 where
-  pub supposed : Supposed first second first-body second-body question
+pub record Hidden (first second : Index) (first-body second-body : Body) (asked : Asked) : Type 0 where
+  pub supposed : Supposed first second first-body second-body asked
   pub first-formed : WellFormed first
   pub second-formed : WellFormed second
 
 -- an outside T that is there
-pub record OutsideTypeExpr (index : Index) (body : Body) (question : Question) (m t : ℕ) : Type 0 where
+pub record OutsideTypeExpr (index : Index) (body : Body) (asked : Asked) (m t : ℕ) : Type 0 where
   pub type : TypeExpr
   pub found : type-in index m t ≡ some type
-  pub named : OutsideType index body question m t
+  pub named : OutsideType index body asked m t
 
 -- a module of the one and of the other
 pub record Sides (first second : Index) (m : ℕ) : Type 0 where
@@ -164,7 +165,7 @@ pub record Sides (first second : Index) (m : ℕ) : Type 0 where
   pub left-found : module-at first m ≡ some left
   pub right-found : module-at second m ≡ some right
 
-module _ (A B : Index) (a b : Body) (q : Question) (hidden : Hidden A B a b q) where
+module _ (A B : Index) (a b : Body) (q : Asked) (hidden : Hidden A B a b q) where
   pub sides-of : (m : ℕ) → Present (module-at A m) → Sides A B m
   sides-of m (left, e) =
       let (right, e′) = module-found B m (λ the-module. some (the-module .name)) (hidden .supposed .agree .first-stands .modules m (left .name) (in-module e (λ the-module. some (the-module .name)))) in

@@ -8,13 +8,14 @@ use mathlib.Core.Option.{Option, none, some}
 use lib.ListN.{length, getElem?}
 use lib.Dec.{eqb}
 use Rattle.model.specs.Common.{if_then_else_, let-some, eq-numbers}
-use Rattle.model.specs.Records.{Name, TypeExpr, NameWithType, DefinitionKind, Definition, Origin, UnaryOp, BinaryOp, Expression, ExpressionInfo, Module, Question, Index}
+use Rattle.model.specs.Records.{Name, TypeExpr, NameWithType, DefinitionKind, Definition, Origin, UnaryOp, BinaryOp, Expression, ExpressionInfo, Module, Index}
 use Rattle.model.specs.Lookups.{module-at, type-expr-at, definition-at, expression-at, is-builtin-function-name, definition-for-identifier-expr}
-use Rattle.model.specs.Links.{link, links, type-types, field-types, definition-types, definition-expressions, origin-expressions, node-expressions, node-types, expression-types, type-in, question-module, question-types}
+use Rattle.model.specs.Links.{link, links, type-types, field-types, definition-types, definition-expressions, origin-expressions, node-expressions, node-types, expression-types, type-in}
 use Rattle.model.specs.WellFormed.{Present}
 use Rattle.resolution.specs.Types.{as-tuple, as-pointer, as-array, as-struct, as-function, field-type, data-of, error, felt}
 use Rattle.resolution.specs.Compatible.{are-types-compatible, is-commutative}
-use Rattle.resolution.specs.Programs.{Demand}
+use Rattle.resolution.specs.Asked.{Asked, asked-module, asked-types}
+use Rattle.resolution.specs.Programs.{Demand, Said, Program}
 use Rattle.resolution.specs.Views.{is-array-expr, is-unsuffixed-literal, as-identifier, as-struct-literal, struct-field, names-array-expr, operand-is-unsuffixed-literal, right-first, callee-is-builtin, suffix-type}
 use Rattle.resolution.specs.TypeResolution.{
   resolve-all,
@@ -63,7 +64,9 @@ use Rattle.resolution.specs.TypeResolution.{
   node-type,
   expression-program,
   program,
-  question-program,
+  expression-in-context,
+  says-type,
+  asked-program,
 }
 use Rattle.resolution.specs.Inside.{Body, OutsideScope, OutsideDefinition, OutsideExpression, definition-names, expression-names, type-names, question-names, AboutOutside}
 use Rattle.resolution.proofs.Found.{Found, neither, both, found-self, found-by, found-link, Same, same-done, same-refuse, same-look, same-bind, same-asked, same-entered, same-read, same-let-some, same-each, same-if, same-ifs, Each, each-two}
@@ -121,7 +124,7 @@ struct-field-named (DefinitionKind.Parameter t) name = neither
 struct-field-named (DefinitionKind.Use m item) name = neither
 struct-field-named DefinitionKind.LoopVariable name = neither
 
-module _ (A B : Index) (a b : Body) (q : Question) (hidden : Hidden A B a b q) where
+module _ (A B : Index) (a b : Body) (q : Asked) (hidden : Hidden A B a b q) where
   -- a demand about the outside
   abbrev pub OutsideDemand : Demand → Type 0
   OutsideDemand (Demand.type m t s) = OutsideTypeExpr A a q m t × OutsideScope A a m s
@@ -715,37 +718,41 @@ module _ (A B : Index) (a b : Body) (q : Question) (hidden : Hidden A B a b q) w
   program-same (Demand.struct m d) outside = struct-program-same m d outside
   program-same (Demand.signature m d) outside = signature-program-same m d outside
 
-  -- ------------------------------------------------------------------ the question
+  -- ------------------------------------------------------------------ what is asked
 
-  question-type : (m t : ℕ) → m ≡ question-module q → List·Memᴰ t (question-types q) → Present (type-in A m t) → OutsideTypeExpr A a q m t
-  question-type m t here named (type, e) = record { type = type; found = e; named = question-names here named }
+  asked-type : (m t : ℕ) → m ≡ asked-module q → List·Memᴰ t (asked-types q) → Present (type-in A m t) → OutsideTypeExpr A a q m t
+  asked-type m t here named (type, e) = record { type = type; found = e; named = question-names here named }
 
-  expression-question-same : (m e t : ℕ) → OutsideExpression A a m e → OutsideTypeExpr A a q m t
-      → Same OutsideDemand (question-program A (Question.expr m e (some t))) (question-program B (Question.expr m e (some t)))
-  unfolding question-program
-  expression-question-same m e t outside type =
+  in-context-same : (m e t : ℕ) → OutsideExpression A a m e → OutsideTypeExpr A a q m t
+      → Same OutsideDemand (expression-in-context A m e t) (expression-in-context B m e t)
+  unfolding expression-in-context
+  in-context-same m e t outside type =
       same-each (modules-found m (module-found A m _ (outside .found))) (same-done error) λ left right here.
       same-let-some (info-found m (sides-from here) outside) (same-done error) λ info known.
       same-bind (same-asked (Demand.type m t (info .scope)) (type, known .scope)) λ context.
       same-asked (Demand.expression m e (some context)) outside
 
-  pub question-same : (r : Question) → q ≡ r → AboutOutside A a r → Same OutsideDemand (question-program A r) (question-program B r)
-  unfolding question-program question-module question-types
-  question-same (Question.expr m e none) is-q about = same-asked (Demand.expression m e none) about
-  question-same (Question.expr m e (some t)) is-q about =
-      expression-question-same m e t (about .0) (question-type m t (named-module-of is-q) (named-type-of is-q) (about .1))
-    where
-      named-module-of : q ≡ Question.expr m e (some t) → m ≡ question-module q
-      named-module-of h = ap question-module (sym h)
+  says-type-same : {p p′ : Program ℕ} → Same OutsideDemand p p′ → Same OutsideDemand (says-type p) (says-type p′)
+  unfolding says-type
+  says-type-same h = same-bind h λ t. same-done (Said.type t)
 
-      named-type-of : q ≡ Question.expr m e (some t) → List·Memᴰ t (question-types q)
-      named-type-of h = subst (λ x. List·Memᴰ t (question-types x)) (sym h) (List·Memᴰ·head refl)
-  question-same (Question.def m d) is-q about = same-asked (Demand.definition m d) about
-  question-same (Question.type m t s) is-q about =
-      same-asked (Demand.type m t s) (question-type m t (named-module-of is-q) (named-type-of is-q) (about .0), about .1)
+  pub asked-same : (r : Asked) → q ≡ r → AboutOutside A a r → Same OutsideDemand (asked-program A r) (asked-program B r)
+  unfolding asked-program asked-module asked-types
+  asked-same (Asked.expr m e none) is-q about = says-type-same (same-asked (Demand.expression m e none) about)
+  asked-same (Asked.expr m e (some t)) is-q about =
+      says-type-same (in-context-same m e t (about .0) (asked-type m t (named-module-of is-q) (named-type-of is-q) (about .1)))
     where
-      named-module-of : q ≡ Question.type m t s → m ≡ question-module q
-      named-module-of h = ap question-module (sym h)
+      named-module-of : q ≡ Asked.expr m e (some t) → m ≡ asked-module q
+      named-module-of h = ap asked-module (sym h)
 
-      named-type-of : q ≡ Question.type m t s → List·Memᴰ t (question-types q)
-      named-type-of h = subst (λ x. List·Memᴰ t (question-types x)) (sym h) (List·Memᴰ·head refl)
+      named-type-of : q ≡ Asked.expr m e (some t) → List·Memᴰ t (asked-types q)
+      named-type-of h = subst (λ x. List·Memᴰ t (asked-types x)) (sym h) (List·Memᴰ·head refl)
+  asked-same (Asked.def m d) is-q about = says-type-same (same-asked (Demand.definition m d) about)
+  asked-same (Asked.type m t s) is-q about =
+      says-type-same (same-asked (Demand.type m t s) (asked-type m t (named-module-of is-q) (named-type-of is-q) (about .0), about .1))
+    where
+      named-module-of : q ≡ Asked.type m t s → m ≡ asked-module q
+      named-module-of h = ap asked-module (sym h)
+
+      named-type-of : q ≡ Asked.type m t s → List·Memᴰ t (asked-types q)
+      named-type-of h = subst (λ x. List·Memᴰ t (asked-types x)) (sym h) (List·Memᴰ·head refl)

@@ -1,10 +1,12 @@
 -- From text to text, by computation: document 01's whole case and its rows marked ● ("Expressions worth trying") as one table under one
 -- theorem; then what else it says of answers. Assumes nothing.
+use Prim.Native.Nat.{ℕ}
 use Prim.Native.String.{String}
 use mathlib.Core.Path.{_≡_, refl}
 use mathlib.Core.List.{List, [], _∷_, map}
 use Rattle.model.specs.Common.{tabs}
 use Rattle.format.specs.Cases.{whole}
+use Rattle.resolution.specs.Answer.{line-text, line-written}
 use Rattle.resolution.specs.Resolve.{Reply, resolve, answer}
 use Rattle.resolution.specs.Computes.{resolves}
 
@@ -72,15 +74,34 @@ pub more-printed : Printed more
 unfolding resolves more
 more-printed = refl
 
--- ------------------------------------------------------------------ one question by its number
+-- ------------------------------------------------------------------ one line by its question's number and its own
+
+-- the line, what the answer buffer then holds of it, and the numbers of a refused file
+abbrev pub shown : Reply → List (List ℕ)
+shown (Reply.the-line line) = line-text line ∷ line-written line ∷ []
+shown Reply.past-last = []
+shown (Reply.file-refused number at-line) = (number ∷ at-line ∷ []) ∷ []
 
 -- last, a question number that the file lacks: 5, line 0. (The whole case has two questions)
-pub one-question : map (answer (tabs whole)) (0 ∷ 1 ∷ 2 ∷ [])
-    ≡ Reply.typed (tabs "expr→0→2→type→u32\n") ∷ Reply.typed (tabs "expr→0→1→type→felt\n") ∷ Reply.file-refused 5 0 ∷ []
+pub one-question : map (λ n. shown (answer (tabs whole) n 0)) (0 ∷ 1 ∷ 2 ∷ [])
+    ≡ (tabs "expr→0→2→type→u32\n" ∷ tabs "expr→0→2→type→u32\n" ∷ [])
+    ∷ (tabs "expr→0→1→type→felt\n" ∷ tabs "expr→0→1→type→felt\n" ∷ [])
+    ∷ ((5 ∷ 0 ∷ []) ∷ [])
+    ∷ []
 unfolding resolves whole
 one-question = refl
 
+-- each has one line
+pub one-line : map (λ n. answer (tabs whole) n 1) (0 ∷ 1 ∷ 2 ∷ []) ≡ Reply.past-last ∷ Reply.past-last ∷ Reply.file-refused 5 0 ∷ []
+unfolding resolves whole
+one-line = refl
+
+-- after 6 to 10 the answer buffer is unchanged
+pub nothing-written : shown (answer (tabs "index→1\nM→m\nS→-→module\nE→0→0→1→-→-→plain→-→-→un→!→-\nQ→expr→0→0→-\n") 0 0) ≡ tabs "expr→0→0→refused→6\n" ∷ [] ∷ []
+unfolding resolves
+nothing-written = refl
+
 -- a file that loading refuses has no question
-pub no-question : map (answer (tabs "index→1\nM→m\n")) (0 ∷ 9 ∷ []) ≡ Reply.file-refused 5 2 ∷ Reply.file-refused 5 2 ∷ []
+pub no-question : map (λ n. answer (tabs "index→1\nM→m\n") n 0) (0 ∷ 9 ∷ []) ≡ Reply.file-refused 5 2 ∷ Reply.file-refused 5 2 ∷ []
 unfolding resolves
 no-question = refl

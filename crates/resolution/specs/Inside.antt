@@ -1,9 +1,9 @@
 -- Inside and outside of a function's body (document 01, "Inside a function"). Assumes nothing.
 use Prim.Native.Nat.{ℕ}
 use mathlib.Core.Path.{_≡_}
-use mathlib.Core.List.{List, List·Memᴰ}
+use mathlib.Core.List.{List·Memᴰ}
 use mathlib.Core.Option.{none, some}
-use Rattle.model.specs.Records.{ScopeKind, Scope, TypeExpr, Definition, ExpressionInfo, Question, Index}
+use Rattle.model.specs.Records.{ScopeKind, Scope, TypeExpr, Definition, ExpressionInfo, Index}
 use Rattle.model.specs.Links.{
   scope-in,
   type-in,
@@ -15,10 +15,9 @@ use Rattle.model.specs.Links.{
   expression-types,
   expression-definitions,
   expression-expressions,
-  question-module,
-  question-types,
 }
 use Rattle.model.specs.WellFormed.{Present}
+use Rattle.resolution.specs.Asked.{Asked, asked-module, asked-types}
 
 -- a function's body: the numbers of a module and of a `function` scope in it
 pub record Body : Type 0 where
@@ -53,11 +52,11 @@ module _ (index : Index) (body : Body) where
     pub not-inside : Inside m (expression .scope) → ⊥
 
   -- "Of the T, those count as outside that an outside record, an outside T or the question names": module, T
-  pub data OutsideType (question : Question) : ℕ → ℕ → Type 0 where
-    definition-names : {m d t : ℕ} (outside : OutsideDefinition m d) → List·Memᴰ t (definition-types (outside .definition .kind)) → OutsideType question m t
-    expression-names : {m e t : ℕ} (outside : OutsideExpression m e) → List·Memᴰ t (expression-types (outside .expression)) → OutsideType question m t
-    type-names : {m t u : ℕ} {type : TypeExpr} → OutsideType question m t → type-in index m t ≡ some type → List·Memᴰ u (type-types type) → OutsideType question m u
-    question-names : {m t : ℕ} → m ≡ question-module question → List·Memᴰ t (question-types question) → OutsideType question m t
+  pub data OutsideType (asked : Asked) : ℕ → ℕ → Type 0 where
+    definition-names : {m d t : ℕ} (outside : OutsideDefinition m d) → List·Memᴰ t (definition-types (outside .definition .kind)) → OutsideType asked m t
+    expression-names : {m e t : ℕ} (outside : OutsideExpression m e) → List·Memᴰ t (expression-types (outside .expression)) → OutsideType asked m t
+    type-names : {m t u : ℕ} {type : TypeExpr} → OutsideType asked m t → type-in index m t ≡ some type → List·Memᴰ u (type-types type) → OutsideType asked m u
+    question-names : {m t : ℕ} → m ≡ asked-module asked → List·Memᴰ t (asked-types asked) → OutsideType asked m t
 
   -- Demand 3: "nothing outside links inside". (An outside scope's parent and an outside record's scope are outside as it stands)
   pub record NothingLinksInside : Type 0 where
@@ -69,8 +68,8 @@ module _ (index : Index) (body : Body) where
         → (expression : ExpressionInfo) → expression-in index m f ≡ some expression → Inside m (expression .scope) → ⊥
 
   -- "A question is about the outside if all it names are outside records, present" in the index
-  abbrev pub AboutOutside : Question → Type 0
-  AboutOutside (Question.expr m e none) = OutsideExpression m e
-  AboutOutside (Question.expr m e (some t)) = OutsideExpression m e × Present (type-in index m t)
-  AboutOutside (Question.def m d) = OutsideDefinition m d
-  AboutOutside (Question.type m t s) = Present (type-in index m t) × OutsideScope m s
+  abbrev pub AboutOutside : Asked → Type 0
+  AboutOutside (Asked.expr m e none) = OutsideExpression m e
+  AboutOutside (Asked.expr m e (some t)) = OutsideExpression m e × Present (type-in index m t)
+  AboutOutside (Asked.def m d) = OutsideDefinition m d
+  AboutOutside (Asked.type m t s) = Present (type-in index m t) × OutsideScope m s

@@ -2,6 +2,7 @@
 pub mod TypeData
 pub mod Types
 pub mod Compatible
+pub mod Asked
 pub mod Programs
 pub mod Views
 pub mod TypeResolution

@@ -3,6 +3,7 @@
 use Prim.Native.Nat.{ℕ}
 use mathlib.Core.Bool.{Bool, true, false}
 use mathlib.Core.Option.{Option, none, some}
+use Rattle.model.specs.Common.{Text}
 use Rattle.model.specs.Refusals.{refusal-child}
 use Rattle.resolution.specs.TypeData.{TypeData}
 use Rattle.resolution.specs.Types.{Table, data-of}
@@ -29,6 +30,12 @@ Answer (Demand.definition m d) = ℕ
 Answer (Demand.expression m e context) = ℕ
 Answer (Demand.struct m d) = Option ℕ
 Answer (Demand.signature m d) = Option ℕ
+
+-- what the program of an answer line answers: the type of a number, a word, or that there is no line
+pub data Said : Type 0 where
+  type : ℕ → Said
+  word : Text → Said
+  nothing : Said
 
 pub data Program (A : Type 0) : Type 0 where
   -- the answer

@@ -1,17 +1,18 @@
--- What a program gives: interning with refusal 9, the list of open demands with refusals 7 and 8, and the type of a question. Assumes nothing.
+-- What a program gives: interning with refusal 9, the list of open demands with refusals 7 and 8, and what is asked. Assumes nothing.
 use Prim.Native.Nat.{ℕ, zero, suc}
 use mathlib.Core.Bool.{Bool, true, false}
 use mathlib.Core.List.{List, [], _∷_, _++_}
 use mathlib.Core.Option.{none, some}
 use lib.ListN.{length}
 use Rattle.model.specs.Common.{if_then_else_, let-some, any, eq-numbers}
-use Rattle.model.specs.Records.{Question, Index}
+use Rattle.model.specs.Records.{Index}
 use Rattle.model.specs.Limits.{max-open-demands}
 use Rattle.model.specs.Refusals.{refusal-open, refusal-depth, refusal-types}
 use Rattle.resolution.specs.TypeData.{TypeData}
 use Rattle.resolution.specs.Types.{Table, first-table, find-type, has-room}
-use Rattle.resolution.specs.Programs.{Demand, Answer, Program, done, refuse, ask, enter, look}
-use Rattle.resolution.specs.TypeResolution.{program, question-program}
+use Rattle.resolution.specs.Asked.{Asked}
+use Rattle.resolution.specs.Programs.{Demand, Answer, Said, Program, done, refuse, ask, enter, look}
+use Rattle.resolution.specs.TypeResolution.{program, asked-program}
 
 -- an answer with the table after it, or the number of a refusal
 pub data Outcome (A : Type 0) : Type 0 where
@@ -67,9 +68,9 @@ demand (suc free) index open-demands d table =
       | false ↦ run (λ d′. demand free index (d ∷ open-demands) d′) (program index d) table
     ]
 
--- ------------------------------------------------------------------ questions
+-- ------------------------------------------------------------------ what is asked
 
--- the type of a question, with the table that holds it, or a refusal from 6 to 9
-unfoldable pub resolve-question : Index → Question → Outcome ℕ
-resolve-question index question =
-    run (demand max-open-demands index []) (question-program index question) first-table
+-- what a line says, with the table that holds its type, or a refusal from 6 to 9. Each starts anew, with no demand open
+unfoldable pub resolve-asked : Index → Asked → Outcome Said
+resolve-asked index asked =
+    run (demand max-open-demands index []) (asked-program index asked) first-table

@@ -7,7 +7,7 @@ use mathlib.Core.Option.{Option, none, some}
 use lib.ListN.{length, getElem?}
 use Rattle.resolution.specs.TypeData.{TypeData}
 use Rattle.resolution.specs.Types.{Table, first-table, table-items, max-types, max-type-items}
-use Rattle.resolution.specs.Programs.{Demand, Answer}
+use Rattle.resolution.specs.Programs.{Demand, Answer, Said}
 use Rattle.resolution.specs.Run.{Outcome, answered, refused}
 
 -- the types inside a row
@@ -60,6 +60,12 @@ AnswerOk (Demand.definition m d) table a = Below table a
 AnswerOk (Demand.expression m e context) table a = Below table a
 AnswerOk (Demand.struct m d) table a = OptionBelow table a
 AnswerOk (Demand.signature m d) table a = OptionBelow table a
+
+-- the type that a line says is a type of the table; a word has at most five bytes
+abbrev pub SaidOk : Table → Said → Type 0
+SaidOk table (Said.type t) = Below table t
+SaidOk table (Said.word word) = length word ≤ 5
+SaidOk table Said.nothing = Unit {0}
 
 -- an answer with a table that is as it should be, or a refusal from 6 to 9
 abbrev pub OutcomeOk : {A : Type 0} → (Table → A → Type 0) → Table → Outcome A → Type 0

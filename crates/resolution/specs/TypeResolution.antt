@@ -5,7 +5,7 @@ use mathlib.Core.List.{List, [], _∷_}
 use mathlib.Core.Option.{Option, none, some}
 use lib.Dec.{eqb}
 use lib.ListN.{length, getElem?}
-use Rattle.model.specs.Records.{Name, TypeExpr, DefinitionKind, Origin, UnaryOp, BinaryOp, Expression, ExpressionInfo, Module, Question, Index}
+use Rattle.model.specs.Records.{Name, TypeExpr, DefinitionKind, Origin, UnaryOp, BinaryOp, Expression, ExpressionInfo, Module, Index}
 use Rattle.model.specs.Lookups.{
   module-at,
   type-expr-at,
@@ -25,7 +25,8 @@ use Rattle.resolution.specs.TypeData.{TypeData}
 use Rattle.resolution.specs.Types.{as-tuple, as-pointer, as-array, as-struct, as-function, field-type, felt, bool, u32, unknown, error, unit}
 use Rattle.resolution.specs.Compatible.{are-types-compatible, unary-op-signatures, binary-op-signatures, unary-result, binary-result}
 use Rattle.resolution.specs.Views.{is-unsuffixed-literal, as-identifier, as-struct-literal, struct-field, typed-fields, names-array-expr, right-first, callee-is-builtin, navigate, numeric, numeric-context, element-contexts, element-hint, suffix-type}
-use Rattle.resolution.specs.Programs.{Demand, Answer, Program, done, look, if_then_else_, let-some, missing-child, type-id-new, type-data, resolve-ast-type, definition-semantic-type, expression-semantic-type, struct-semantic-data, function-semantic-signature, _>>=_, _>>_}
+use Rattle.resolution.specs.Asked.{Asked}
+use Rattle.resolution.specs.Programs.{Demand, Answer, Said, Program, done, look, if_then_else_, let-some, missing-child, type-id-new, type-data, resolve-ast-type, definition-semantic-type, expression-semantic-type, struct-semantic-data, function-semantic-signature, _>>=_, _>>_}
 
 -- ------------------------------------------------------------------ lists of demands
 
@@ -435,15 +436,25 @@ program index (Demand.expression m e context) = expression-program index m e con
 program index (Demand.struct m d) = struct-program index m d
 program index (Demand.signature m d) = signature-program index m d
 
--- ------------------------------------------------------------------ the questions
+-- ------------------------------------------------------------------ what is asked
 
--- "An absent module, expression or definition in a question gives `error`"; a context is "resolved first, in e's scope"
-unfoldable pub question-program : Index → Question → Program ℕ
-question-program index (Question.expr m e none) = expression-semantic-type m e none
-question-program index (Question.expr m e (some t)) =
+-- a context is "resolved first, in e's scope"
+unfoldable pub expression-in-context : Index → ℕ → ℕ → ℕ → Program ℕ
+expression-in-context index m e t =
     let-some (module-at index m) (done error) λ the-module.
     let-some (expression-at the-module e) (done error) λ expr-info. do
       context ← resolve-ast-type m t (expr-info .scope)
       expression-semantic-type m e (some context)
-question-program index (Question.def m d) = definition-semantic-type m d
-question-program index (Question.type m t s) = resolve-ast-type m t s
+
+-- the line says a type
+unfoldable pub says-type : Program ℕ → Program Said
+says-type p = do
+  t ← p
+  done (Said.type t)
+
+-- "An absent module, expression or definition in a question gives `error`"
+unfoldable pub asked-program : Index → Asked → Program Said
+asked-program index (Asked.expr m e none) = says-type (expression-semantic-type m e none)
+asked-program index (Asked.expr m e (some t)) = says-type (expression-in-context index m e t)
+asked-program index (Asked.def m d) = says-type (definition-semantic-type m d)
+asked-program index (Asked.type m t s) = says-type (resolve-ast-type m t s)

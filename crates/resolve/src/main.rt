@@ -8,9 +8,9 @@ ghost use Rattle.resolution.specs.Resolve.{refusal-line};
 ghost use Rattle.answers.specs.Steps.{Long};
 ghost use Rattle.resolve.specs.Parts.{RefusedPut, PartIs};
 
-// What stands at the start of the answer buffer is printed: the question to go on with and how many bytes, or the last bytes.
+// What stands at the start of the answer buffer is printed: the question and its line to go on with and how many bytes, or the last bytes.
 pub enum Part {
-    More(u32, usize),
+    More(u32, u32, usize),
     Last(usize),
 }
 
@@ -58,22 +58,23 @@ fn put_refused(number: u32, line: u32, out: &mut [u8]) -> usize
     type_text::put(out, second, b"\n")
 }
 
-// What is printed from a question on.
+// What is printed from a question's line on.
 fn next_part(
     file: &[u8],
     from: u32,
+    line: u32,
     records: &mut [u32],
     types: &mut [u32],
     demands: &mut [Place],
     out: &mut [u8],
 ) -> Part
     requires { ⌜ Long (length (now records)) (length (now types)) (length (now demands)) (length (now out)) ⌝ }
-    ensures { λ r. ⌜ PartIs (now (file .entry)) from (now (out .exit)) r ⌝ }
+    ensures { λ r. ⌜ PartIs (now (file .entry)) from line (now (out .exit)) r ⌝ }
 {
-    match answers::answer_from(file, from, records, types, demands, out) {
-        LinesAnswer::More(next, n) => Part::More(next, n),
+    match answers::answer_from(file, from, line, records, types, demands, out) {
+        LinesAnswer::More(next, next_line, n) => Part::More(next, next_line, n),
         LinesAnswer::End(n) => Part::Last(n),
-        LinesAnswer::FileRefused(number, line) => Part::Last(put_refused(number, line, out)),
+        LinesAnswer::FileRefused(number, at) => Part::Last(put_refused(number, at, out)),
     }
 }
 
@@ -87,18 +88,21 @@ fn main() {
     let mut demands = places();
     let mut out = answer_bytes();
     let mut from: u32 = 0;
+    let mut line: u32 = 0;
     loop {
         match next_part(
             &space[..n],
             from,
+            line,
             &mut records,
             &mut types,
             &mut demands,
             &mut out,
         ) {
-            Part::More(next, k) => {
+            Part::More(next, next_line, k) => {
                 io::write_all(1, &out[..k]);
                 from = next;
+                line = next_line;
             }
             Part::Last(k) => {
                 io::write_all(1, &out[..k]);

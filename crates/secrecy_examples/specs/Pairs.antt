@@ -16,10 +16,11 @@ use mathlib.Core.Option.{none, some}
 use Rattle.model.specs.Common.{tabs}
 use Rattle.model.specs.Records.{Question}
 use Rattle.format.specs.Computes.{loads}
+use Rattle.resolution.specs.Asked.{Asked}
 use Rattle.resolution.specs.Secrecy.{SameLine}
 use Rattle.resolution.specs.Resolve.{resolve}
 use Rattle.resolution.specs.Computes.{resolves}
-use Rattle.resolution.proofs.BodyTest.{BodyScopes, Types, question-test, tests}
+use Rattle.resolution.proofs.BodyTest.{BodyScopes, Types, asked-test, tests}
 use Rattle.resolution.proofs.PairTest.{Pair, index-in, file-test, Agreeing, pair-same}
 
 -- module, `function` scope, scopes inside
@@ -45,17 +46,17 @@ unfolding loads tests index-in file-test plain one-file other-file
 plain-agreeing = record { first-test = refl; second-test = refl; same = refl }
 
 -- one question of each kind: c at 0 and 3, its value with a context at 1 and 2, felt at 2 and 1
-pub c-same : SameLine (tabs one-file) (tabs other-file) 0 3
+pub c-same : SameLine (tabs one-file) (tabs other-file) 0 3 (Question.def 0 1) (Asked.def 0 1)
 unfolding loads tests index-in plain one-file other-file
-c-same = pair-same plain (Question.def 0 1) 0 3 plain-agreeing refl refl refl refl
+c-same = pair-same plain (Question.def 0 1) (Asked.def 0 1) 0 3 plain-agreeing refl refl refl refl refl
 
-pub value-same : SameLine (tabs one-file) (tabs other-file) 1 2
+pub value-same : SameLine (tabs one-file) (tabs other-file) 1 2 (Question.expr 0 0 (some 0)) (Asked.expr 0 0 (some 0))
 unfolding loads tests index-in plain one-file other-file
-value-same = pair-same plain (Question.expr 0 0 (some 0)) 1 2 plain-agreeing refl refl refl refl
+value-same = pair-same plain (Question.expr 0 0 (some 0)) (Asked.expr 0 0 (some 0)) 1 2 plain-agreeing refl refl refl refl refl
 
-pub felt-same : SameLine (tabs one-file) (tabs other-file) 2 1
+pub felt-same : SameLine (tabs one-file) (tabs other-file) 2 1 (Question.type 0 0 0) (Asked.type 0 0 0)
 unfolding loads tests index-in plain one-file other-file
-felt-same = pair-same plain (Question.type 0 0 0) 2 1 plain-agreeing refl refl refl refl
+felt-same = pair-same plain (Question.type 0 0 0) (Asked.type 0 0 0) 2 1 plain-agreeing refl refl refl refl refl
 
 pub one-printed : resolve (tabs one-file) ≡ tabs "def→0→1→type→bool\nexpr→0→0→type→bool\ntype→0→0→type→felt\n"
 unfolding resolves one-file
@@ -85,17 +86,17 @@ deep-agreeing : Agreeing deep
 unfolding loads tests index-in file-test deep three-deep four-deep
 deep-agreeing = record { first-test = refl; second-test = refl; same = refl }
 
-pub deep-constant-same : SameLine (tabs three-deep) (tabs four-deep) 0 1
+pub deep-constant-same : SameLine (tabs three-deep) (tabs four-deep) 0 1 (Question.def 0 2) (Asked.def 0 2)
 unfolding loads tests index-in deep three-deep four-deep
-deep-constant-same = pair-same deep (Question.def 0 2) 0 1 deep-agreeing refl refl refl refl
+deep-constant-same = pair-same deep (Question.def 0 2) (Asked.def 0 2) 0 1 deep-agreeing refl refl refl refl refl
 
-pub deep-sum-same : SameLine (tabs three-deep) (tabs four-deep) 1 3
+pub deep-sum-same : SameLine (tabs three-deep) (tabs four-deep) 1 3 (Question.expr 0 0 none) (Asked.expr 0 0 none)
 unfolding loads tests index-in deep three-deep four-deep
-deep-sum-same = pair-same deep (Question.expr 0 0 none) 1 3 deep-agreeing refl refl refl refl
+deep-sum-same = pair-same deep (Question.expr 0 0 none) (Asked.expr 0 0 none) 1 3 deep-agreeing refl refl refl refl refl
 
-pub deep-struct-same : SameLine (tabs three-deep) (tabs four-deep) 2 0
+pub deep-struct-same : SameLine (tabs three-deep) (tabs four-deep) 2 0 (Question.type 0 2 0) (Asked.type 0 2 0)
 unfolding loads tests index-in deep three-deep four-deep
-deep-struct-same = pair-same deep (Question.type 0 2 0) 2 0 deep-agreeing refl refl refl refl
+deep-struct-same = pair-same deep (Question.type 0 2 0) (Asked.type 0 2 0) 2 0 deep-agreeing refl refl refl refl refl
 
 pub three-printed : resolve (tabs three-deep) ≡ tabs "def→0→2→type→u32\nexpr→0→0→type→u32\ntype→0→2→type→struct:0.0\n"
 unfolding resolves three-deep
@@ -127,17 +128,17 @@ unfolding loads tests index-in file-test between block-between loop-between
 between-agreeing = record { first-test = refl; second-test = refl; same = refl }
 
 -- `p.x` in g, the type P in g's scope, and g
-pub between-member-same : SameLine (tabs block-between) (tabs loop-between) 0 2
+pub between-member-same : SameLine (tabs block-between) (tabs loop-between) 0 2 (Question.expr 0 3 none) (Asked.expr 0 3 none)
 unfolding loads tests index-in between block-between loop-between
-between-member-same = pair-same between (Question.expr 0 3 none) 0 2 between-agreeing refl refl refl refl
+between-member-same = pair-same between (Question.expr 0 3 none) (Asked.expr 0 3 none) 0 2 between-agreeing refl refl refl refl refl
 
-pub between-struct-same : SameLine (tabs block-between) (tabs loop-between) 1 3
+pub between-struct-same : SameLine (tabs block-between) (tabs loop-between) 1 3 (Question.type 0 2 3) (Asked.type 0 2 3)
 unfolding loads tests index-in between block-between loop-between
-between-struct-same = pair-same between (Question.type 0 2 3) 1 3 between-agreeing refl refl refl refl
+between-struct-same = pair-same between (Question.type 0 2 3) (Asked.type 0 2 3) 1 3 between-agreeing refl refl refl refl refl
 
-pub between-function-same : SameLine (tabs block-between) (tabs loop-between) 2 0
+pub between-function-same : SameLine (tabs block-between) (tabs loop-between) 2 0 (Question.def 0 4) (Asked.def 0 4)
 unfolding loads tests index-in between block-between loop-between
-between-function-same = pair-same between (Question.def 0 4) 2 0 between-agreeing refl refl refl refl
+between-function-same = pair-same between (Question.def 0 4) (Asked.def 0 4) 2 0 between-agreeing refl refl refl refl refl
 
 pub block-between-printed : resolve (tabs block-between) ≡ tabs "expr→0→3→type→felt\ntype→0→2→type→struct:0.2\ndef→0→4→type→fn:0.4\n"
 unfolding resolves block-between
@@ -167,13 +168,13 @@ moved-agreeing : Agreeing moved
 unfolding loads tests index-in file-test moved body-in-main body-in-lib
 moved-agreeing = record { first-test = refl; second-test = refl; same = refl }
 
-pub moved-constant-same : SameLine (tabs body-in-main) (tabs body-in-lib) 0 1
+pub moved-constant-same : SameLine (tabs body-in-main) (tabs body-in-lib) 0 1 (Question.def 0 2) (Asked.def 0 2)
 unfolding loads tests index-in moved body-in-main body-in-lib
-moved-constant-same = pair-same moved (Question.def 0 2) 0 1 moved-agreeing refl refl refl refl
+moved-constant-same = pair-same moved (Question.def 0 2) (Asked.def 0 2) 0 1 moved-agreeing refl refl refl refl refl
 
-pub moved-function-same : SameLine (tabs body-in-main) (tabs body-in-lib) 1 0
+pub moved-function-same : SameLine (tabs body-in-main) (tabs body-in-lib) 1 0 (Question.def 1 0) (Asked.def 1 0)
 unfolding loads tests index-in moved body-in-main body-in-lib
-moved-function-same = pair-same moved (Question.def 1 0) 1 0 moved-agreeing refl refl refl refl
+moved-function-same = pair-same moved (Question.def 1 0) (Asked.def 1 0) 1 0 moved-agreeing refl refl refl refl refl
 
 pub body-in-main-printed : resolve (tabs body-in-main) ≡ tabs "def→0→2→type→u32\ndef→1→0→type→fn:1.0\n"
 unfolding resolves body-in-main
@@ -202,9 +203,9 @@ ring-agreeing : Agreeing ring
 unfolding loads tests index-in file-test ring ring-one ring-other
 ring-agreeing = record { first-test = refl; second-test = refl; same = refl }
 
-pub ring-same : SameLine (tabs ring-one) (tabs ring-other) 0 2
+pub ring-same : SameLine (tabs ring-one) (tabs ring-other) 0 2 (Question.def 0 0) (Asked.def 0 0)
 unfolding loads tests index-in ring ring-one ring-other
-ring-same = pair-same ring (Question.def 0 0) 0 2 ring-agreeing refl refl refl refl
+ring-same = pair-same ring (Question.def 0 0) (Asked.def 0 0) 0 2 ring-agreeing refl refl refl refl refl
 
 pub ring-one-printed : resolve (tabs ring-one) ≡ tabs "def→0→0→refused→7\ndef→0→2→type→fn:0.2\n"
 unfolding resolves ring-one
@@ -264,28 +265,28 @@ unfoldable pub asked-file : String
 asked-file =
     "index→1\nM→m\nS→-→module\nS→0→function\nT→felt\nT→felt\nD→0→c→0→1→0→1→const→-→0\nD→1→i→2→3→2→3→loop\nE→0→0→1→-→-→plain→-→-→bool\nE→1→2→3→-→-→plain→-→-→bool\n"
 
-abbrev asked : Question → Bool
-asked = question-test (index-in asked-file) (body 0 1 (1 ∷ [])) ((0, 0) ∷ [])
+abbrev is-taken : Asked → Bool
+is-taken = asked-test (index-in asked-file) (body 0 1 (1 ∷ [])) ((0, 0) ∷ [])
 
 -- about a record inside, an absent one, a scope inside, an absent module; with a T that is not listed
-unfoldable pub refused-questions : List Question
-refused-questions =
-    Question.def 0 1
-    ∷ Question.def 0 2
-    ∷ Question.expr 0 1 none
-    ∷ Question.expr 0 2 none
-    ∷ Question.expr 0 0 (some 1)
-    ∷ Question.type 0 0 1
-    ∷ Question.type 0 1 0
-    ∷ Question.type 0 2 0
-    ∷ Question.def 1 0
+unfoldable pub refused-lines : List Asked
+refused-lines =
+    Asked.def 0 1
+    ∷ Asked.def 0 2
+    ∷ Asked.expr 0 1 none
+    ∷ Asked.expr 0 2 none
+    ∷ Asked.expr 0 0 (some 1)
+    ∷ Asked.type 0 0 1
+    ∷ Asked.type 0 1 0
+    ∷ Asked.type 0 2 0
+    ∷ Asked.def 1 0
     ∷ []
 
-pub questions-refused : map asked refused-questions ≡ map (λ q. false) refused-questions
-unfolding loads tests index-in asked-file refused-questions
-questions-refused = refl
+pub lines-refused : map is-taken refused-lines ≡ map (λ q. false) refused-lines
+unfolding loads tests index-in asked-file refused-lines
+lines-refused = refl
 
 -- the same of records outside passes
-pub questions-taken : map asked (Question.def 0 0 ∷ Question.expr 0 0 none ∷ Question.expr 0 0 (some 0) ∷ Question.type 0 0 0 ∷ []) ≡ true ∷ true ∷ true ∷ true ∷ []
+pub lines-taken : map is-taken (Asked.def 0 0 ∷ Asked.expr 0 0 none ∷ Asked.expr 0 0 (some 0) ∷ Asked.type 0 0 0 ∷ []) ≡ true ∷ true ∷ true ∷ true ∷ []
 unfolding loads tests index-in asked-file
-questions-taken = refl
+lines-taken = refl

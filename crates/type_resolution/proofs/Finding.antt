@@ -6,7 +6,7 @@ use native.Mathlib.Omega.{arith}
 use mathlib.Core.List.{List}
 use mathlib.Core.Option.{Option, none, some}
 use Rattle.model.specs.Common.{if_then_else_}
-use Rattle.model.specs.Records.{Module, Question}
+use Rattle.model.specs.Records.{Module}
 use Rattle.model.specs.Lookups.{type-expr-at, definition-at, expression-at}
 use Rattle.records.specs.Layout.{index-of, module-row}
 use Rattle.records.specs.Meaning.{type-expr-of, found-type-expr-of, definition-kind-of, found-definition-of, info-of, expression-of, found-expression-of}
@@ -18,7 +18,7 @@ use Rattle.records.specs.declared.Definition.{Definition}
 use Rattle.records.specs.declared.ExpressionInfo.{ExpressionInfo}
 use Rattle.resolution.specs.Types.{Table, error}
 use Rattle.resolution.specs.Programs.{Demand, Program, done, let-some, resolve-ast-type, expression-semantic-type, _>>=_}
-use Rattle.resolution.specs.TypeResolution.{program, type-program, definition-program, struct-program, signature-program, expression-program, question-program, type-expr-type, definition-kind-type, struct-kind-data, function-kind-signature, context-expected, node-type}
+use Rattle.resolution.specs.TypeResolution.{program, type-program, definition-program, struct-program, signature-program, expression-program, expression-in-context, type-expr-type, definition-kind-type, struct-kind-data, function-kind-signature, context-expected, node-type}
 use Rattle.resolution.specs.Run.{Outcome}
 use Rattle.type_resolution.specs.State.{Ready, Runs, typed, linked}
 use Rattle.type_resolution.specs.Leaves.{TypeIn, DefinitionIn, ExpressionIn}
@@ -86,12 +86,12 @@ module _ {file words : List ℕ} {depth : ℕ} {T : List ℕ} {O : List (List �
       found-by (λ home. expression-at home e) (done error) (λ home info. context-expected m home info given >>= (λ context. node-type m home info context (info .node))) (i .there) (module-row file words m) _ _
       (i .module-is file) (sym (ap (found-expression-of file words) h) ∙ i .same file) a
 
-  -- a question with a context, which is resolved first
-  pub question-found : {r : Resolved} (m e t : ℕ) {x : FoundExpression} {v : ExpressionInfo} → ExpressionIn words m e x → x ≡ FoundExpression.Found v
+  -- an expression with a context, which is resolved first
+  pub in-context-found : {r : Resolved} (m e t : ℕ) {x : FoundExpression} {v : ExpressionInfo} → ExpressionIn words m e x → x ≡ FoundExpression.Found v
       → Runs typed file words (resolve-ast-type m t (v .scope .0) >>= (λ context. expression-semantic-type m e (some context))) depth T O T′ O′ r
-      → Runs typed file words (question-program (index-of file words) (Question.expr m e (some t))) depth T O T′ O′ r
-  unfolding question-program
-  question-found m e t i h a =
+      → Runs typed file words (expression-in-context (index-of file words) m e t) depth T O T′ O′ r
+  unfolding expression-in-context
+  in-context-found m e t i h a =
       found-by (λ home. expression-at home e) (done error) (λ home info. resolve-ast-type m t (info .scope) >>= (λ context. expression-semantic-type m e (some context))) (i .there) (module-row file words m) _ _
       (i .module-is file) (sym (ap (found-expression-of file words) h) ∙ i .same file) a
 
@@ -133,9 +133,9 @@ module _ {file words : List ℕ} {depth : ℕ} {T : List ℕ} {O : List (List �
       absent-by (λ home. expression-at home e) (done error) (λ home info. context-expected m home info given >>= (λ context. node-type m home info context (info .node))) (i .there) (module-row file words m) _
       (i .module-is file) (sym (ap (found-expression-of file words) h) ∙ i .same file) (answers ok refl)
 
-  pub question-absent : (m e t : ℕ) {x : FoundExpression} → ExpressionIn words m e x → x ≡ FoundExpression.Absent
-      → Runs typed file words (question-program (index-of file words) (Question.expr m e (some t))) depth T O T O (Resolved.Answered error)
-  unfolding question-program
-  question-absent m e t i h =
+  pub in-context-absent : (m e t : ℕ) {x : FoundExpression} → ExpressionIn words m e x → x ≡ FoundExpression.Absent
+      → Runs typed file words (expression-in-context (index-of file words) m e t) depth T O T O (Resolved.Answered error)
+  unfolding expression-in-context
+  in-context-absent m e t i h =
       absent-by (λ home. expression-at home e) (done error) (λ home info. resolve-ast-type m t (info .scope) >>= (λ context. expression-semantic-type m e (some context))) (i .there) (module-row file words m) _
       (i .module-is file) (sym (ap (found-expression-of file words) h) ∙ i .same file) (answers ok refl)

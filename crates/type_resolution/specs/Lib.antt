@@ -2,3 +2,4 @@
 pub mod State
 pub mod Shapes
 pub mod Leaves
+pub mod Asking

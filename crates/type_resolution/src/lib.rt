@@ -22,7 +22,6 @@ use records::FoundTypeExpr;
 use records::Items;
 use records::Name;
 use records::Origin;
-use records::Question;
 use records::Suffix;
 use records::TypeExpr;
 use records::TypeLink;
@@ -39,14 +38,14 @@ ghost use Prim.Native.Nat.{_+_, _≤_, _<_};
 ghost use mathlib.Core.Option.{some};
 ghost use lib.ListN.{length};
 ghost use Rattle.records.specs.Layout.{index-of, module-row};
-ghost use Rattle.records.specs.Meaning.{name-of, numbers-of, links-of, names-with-types-of, type-expr-of, definition-kind-of, type-link-of, expression-link-of, definition-link-of, suffix-of, expression-of, info-of, unary-op-of, binary-op-of, question-of};
-ghost use Rattle.model.specs.Records.{Question as ModelQuestion};
+ghost use Rattle.records.specs.Meaning.{name-of, numbers-of, links-of, names-with-types-of, type-expr-of, definition-kind-of, type-link-of, expression-link-of, definition-link-of, suffix-of, expression-of, info-of, unary-op-of, binary-op-of};
 ghost use Rattle.resolution.specs.Programs.{Demand, ask, done};
-ghost use Rattle.resolution.specs.TypeResolution.{resolve-all, infer-only, infer-arguments, infer-elements, all-same-type, array-type, type-expr-type, definition-kind-type, context-expected, node-type, new-type, unary-type, binary-type, member-type, call-type, index-type, tuple-type, tuple-index-type, question-program};
+ghost use Rattle.resolution.specs.TypeResolution.{resolve-all, infer-only, infer-arguments, infer-elements, all-same-type, array-type, type-expr-type, definition-kind-type, context-expected, node-type, new-type, unary-type, binary-type, member-type, call-type, index-type, tuple-type, tuple-index-type, expression-in-context};
 ghost use Rattle.type_table.specs.Layout.{item-count, types-of};
 ghost use Rattle.type_table.specs.Meaning.{found-type-of};
 ghost use Rattle.demands.specs.Promises.{Opens};
 ghost use Rattle.type_resolution.specs.State.{Ready, Runs, typed, linked, ignored, collected, compared, Exactly, AtMost};
+ghost use Rattle.type_resolution.specs.Asking.{typed-program};
 ghost use Rattle.type_resolution.specs.Shapes.{struct-named, declared-type, tuple-expr-type, struct-type, signature-type, literal-in, array-literal-in, empty-array-in, repeat-in, links-behind, ShortType, ShortNode};
 ghost use Rattle.type_resolution.specs.Leaves.{TypeIn, DefinitionIn, ExpressionIn, linked-by, IsKnown, OrError, Passed, Returned, NumericOr, StructFields, FunctionParts, HintBelow};
 
@@ -58,6 +57,13 @@ pub enum Linked {
     Known(u32),
     Absent,
     Refused(u32),
+}
+
+// What is asked for a type: an expression's, with a context or without; a definition's; a type expression's.
+pub enum Asked {
+    Expr(u32, ExpressionId, TypeLink),
+    Def(u32, DefinitionIndex),
+    Type(u32, u32, FileScopeId),
 }
 
 // How many types were collected, or the number of a refusal.
@@ -1564,31 +1570,31 @@ fn rep(
     }
 }
 
-// ------------------------------------------------------------------ questions
+// ------------------------------------------------------------------ what is asked
 
-// The type of a question. An absent module, expression or definition gives error; a context is resolved first, in e's scope. It asks for a started table,
+// The type that is asked for. An absent module, expression or definition gives error; a context is resolved first, in e's scope. It asks for a started table,
 // the 256 places and records within their limit (`Ready`): `answers`, its only caller, has just loaded the file.
-pub fn resolve_question(
+pub fn resolve_asked(
     file: &[u8],
     words: &[u32],
     types: &mut [u32],
     demands: &mut [Place],
-    question: Question,
+    asked: Asked,
 ) -> Resolved
     requires { ⌜ Ready (now file) (now words) 0 (now types) (now demands) ⌝ }
-    ensures { λ r. ⌜ Runs typed (now (file .entry)) (now (words .entry)) (question-program (index-of (now (file .entry)) (now (words .entry))) (question-of question)) 0 (now (types .entry)) (now (demands .entry)) (now (types .exit)) (now (demands .exit)) r ⌝ }
+    ensures { λ r. ⌜ Runs typed (now (file .entry)) (now (words .entry)) (typed-program (index-of (now (file .entry)) (now (words .entry))) asked) 0 (now (types .entry)) (now (demands .entry)) (now (types .exit)) (now (demands .exit)) r ⌝ }
 {
-    match question {
-        Question::Expr(m, e, context) => match context {
+    match asked {
+        Asked::Expr(m, e, context) => match context {
             TypeLink::Absent => expr_type(file, words, types, demands, 0, m, e, FoundType::Absent),
             TypeLink::To(t) => asked_in(file, words, types, demands, m, e, t),
         },
-        Question::Def(m, d) => def_type(file, words, types, demands, 0, m, d),
-        Question::Type(m, t, s) => ast_type(file, words, types, demands, 0, m, t, s),
+        Asked::Def(m, d) => def_type(file, words, types, demands, 0, m, d),
+        Asked::Type(m, t, s) => ast_type(file, words, types, demands, 0, m, t, s),
     }
 }
 
-// A question with a context.
+// An expression's type with a context.
 fn asked_in(
     file: &[u8],
     words: &[u32],
@@ -1599,7 +1605,7 @@ fn asked_in(
     t: u32,
 ) -> Resolved
     requires { ⌜ Ready (now file) (now words) 0 (now types) (now demands) ⌝ }
-    ensures { λ r. ⌜ Runs typed (now (file .entry)) (now (words .entry)) (question-program (index-of (now (file .entry)) (now (words .entry))) (ModelQuestion.expr m (e .0) (some t))) 0 (now (types .entry)) (now (demands .entry)) (now (types .exit)) (now (demands .exit)) r ⌝ }
+    ensures { λ r. ⌜ Runs typed (now (file .entry)) (now (words .entry)) (expression-in-context (index-of (now (file .entry)) (now (words .entry))) m (e .0) t) 0 (now (types .entry)) (now (demands .entry)) (now (types .exit)) (now (demands .exit)) r ⌝ }
 {
     match expression_in(words, m, e) {
         FoundExpression::Absent => Resolved::Answered(type_table::ERROR),

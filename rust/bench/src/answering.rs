@@ -25,33 +25,18 @@ fn options(memo: bool) -> Options {
     }
 }
 
-/// All lines of a file by the proved `answer_from`, and how many calls they took.
-fn proved_lines(file: &[u8], buffers: &mut Buffers) -> Result<(Vec<u8>, usize), String> {
-    let (mut lines, mut from, mut calls) = (Vec::new(), 0, 0);
-    loop {
-        let part = entries::answer_from(file, from, buffers);
-        let part = part.map_err(|refusal| refusal.answer_line())?;
-        lines.extend_from_slice(&buffers.out[..part.bytes]);
-        calls += 1;
-        match part.next {
-            Some(next) => from = next,
-            None => return Ok((lines, calls)),
-        }
-    }
-}
-
 /// What both sides print is the same; the number of calls.
 fn compared(file: &Asked) -> Result<usize, String> {
     let mut buffers = Buffers::new();
-    let (lines, calls) = proved_lines(&file.bytes, &mut buffers)?;
+    let (lines, calls) = entries::all_lines(&file.bytes, &mut buffers)?;
     for memo in [false, true] {
         if lines != answer_bytes(&file.bytes, options(memo)) {
             return Err(format!("{}: other lines than the Rust's", file.name));
         }
     }
-    let first = entries::answer(&file.bytes, 0, &mut buffers);
-    let first = first.map_err(|refusal| format!("{}: {refusal}", file.name))?;
-    match lines.starts_with(&buffers.out[..first]) {
+    let first = entries::first_line(&file.bytes, 0, &mut buffers);
+    let first = first.map_err(|said| format!("{}: {said}", file.name))?;
+    match lines.starts_with(first) {
         true => Ok(calls),
         false => Err(format!("{}: another line for one question", file.name)),
     }
@@ -112,17 +97,17 @@ fn times(file: &Asked, rounds: usize) -> [f64; 5] {
     let mut buffers = Buffers::new();
     let proved = move || {
         if file.first_only {
-            let line = entries::answer(black_box(bytes), 0, &mut buffers);
+            let line = entries::first_line(black_box(bytes), 0, &mut buffers);
             black_box(line).expect("answered before");
         } else {
-            let lines = proved_lines(black_box(bytes), &mut buffers);
+            let lines = entries::all_lines(black_box(bytes), &mut buffers);
             black_box(lines).expect("answered before");
         }
     };
     let mut records = Buffers::new().records;
     let loading = move || {
-        let verdict = library::load(black_box(bytes), &mut records);
-        black_box(verdict).expect("accepted before");
+        let is_accepted = library::accepts(black_box(bytes), &mut records);
+        assert!(black_box(is_accepted), "accepted before");
     };
     // The lines read into the crate's types; `on_large_stack` is around all of this.
     let mut resolver = Resolver::new();

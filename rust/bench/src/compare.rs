@@ -4,6 +4,7 @@
 
 use index_file::load::{Refusal, load};
 use index_file::words::{WORDS, with_plain_empty_lists, words};
+use roognaps::raw::{self, Loaded};
 use typetool::generate::faults::Faults;
 
 use crate::library;
@@ -57,9 +58,13 @@ fn difference(
 ) -> Option<String> {
     let before = filled(WORDS + BEHIND);
     let mut records = before.clone();
-    let given = library::load(file, &mut records);
-    if given != expected.as_ref().map(|_| ()).map_err(|refusal| *refusal) {
-        return Some(format!("{given:?} instead of {:?}", expected.map(|_| ())));
+    let given = raw::load(file, &mut records).read();
+    let owed = match &expected {
+        Ok(_) => Loaded::Accepted,
+        Err(refusal) => library::owed(*refusal),
+    };
+    if given != Ok(owed) {
+        return Some(format!("{given:?} instead of {owed:?}"));
     }
     if records[WORDS..] != before[WORDS..] {
         return Some("a word behind the record buffer has changed".to_string());
@@ -81,15 +86,15 @@ fn difference(
 /// What an accepted file leaves in a cleared buffer. (Words that no record uses stay what they were.)
 fn in_cleared(file: &[u8]) -> Vec<u32> {
     let mut records = vec![0; WORDS];
-    library::load(file, &mut records).expect("accepted before");
+    assert!(library::accepts(file, &mut records), "accepted before");
     records
 }
 
 fn short_difference(file: &[u8]) -> Option<String> {
     let before = filled(WORDS - 1);
     let mut records = before.clone();
-    let given = library::load(file, &mut records);
-    let owed = Err(Refusal { number: 1, line: 0 });
+    let given = raw::load(file, &mut records).read();
+    let owed = Ok(Loaded::Refused(roognaps::Refusal::ShortBuffer));
     if given != owed {
         return Some(format!("{given:?} for a short buffer"));
     }

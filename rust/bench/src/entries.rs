@@ -1,7 +1,8 @@
 //! The proved entries that answer, over buffers of one's own.
 
-use index_file::load::Refusal;
-use roognaps::raw::{self, ANSWER_BYTES, Entry, PLACES, Place, RECORD_WORDS, TYPE_WORDS};
+use roognaps::raw::{
+    self, ANSWER_BYTES, LineAnswer, LinesAnswer, PLACES, Place, RECORD_WORDS, TYPE_WORDS,
+};
 
 /// The four buffers, as long as document 01 asks.
 pub struct Buffers {
@@ -20,44 +21,48 @@ impl Buffers {
             out: vec![0; ANSWER_BYTES],
         }
     }
-}
 
-fn enter(entry: Entry, file: &[u8], number: usize, buffers: &mut Buffers) -> u64 {
-    let buffers = raw::Buffers {
-        records: &mut buffers.records,
-        types: &mut buffers.types,
-        places: &mut buffers.places,
-        out: &mut buffers.out,
-    };
-    raw::enter(entry, file, number as u32, buffers)
-}
-
-/// The length of the line of one question, or the number of a refusal.
-pub fn answer(file: &[u8], number: usize, buffers: &mut Buffers) -> Result<usize, u64> {
-    let answer = enter(Entry::Answer, file, number, buffers);
-    match answer >> 32 {
-        0 => Ok(answer as usize),
-        refusal => Err(refusal),
+    fn lent(&mut self) -> raw::Buffers<'_> {
+        raw::Buffers {
+            records: &mut self.records,
+            types: &mut self.types,
+            places: &mut self.places,
+            out: &mut self.out,
+        }
     }
 }
 
-/// Some lines: how many bytes, and the question to go on with.
-pub struct Lines {
-    pub bytes: usize,
-    pub next: Option<usize>,
+/// The first line of a question.
+pub fn first_line<'b>(
+    file: &[u8],
+    question: u32,
+    buffers: &'b mut Buffers,
+) -> Result<&'b [u8], String> {
+    match raw::answer(file, question, 0, buffers.lent()).read() {
+        Ok(LineAnswer::Line { bytes }) => Ok(&buffers.out[..bytes]),
+        other => Err(format!("no line: {other:?}")),
+    }
 }
 
-pub fn answer_from(file: &[u8], from: usize, buffers: &mut Buffers) -> Result<Lines, Refusal> {
-    let answer = enter(Entry::AnswerFrom, file, from, buffers);
-    if answer >> 63 == 1 {
-        return Err(Refusal {
-            number: (answer >> 32) as u8,
-            line: answer as u32 as usize,
-        });
+/// All lines of a file, and how many calls they took.
+pub fn all_lines(file: &[u8], buffers: &mut Buffers) -> Result<(Vec<u8>, usize), String> {
+    let (mut lines, mut from, mut calls) = (Vec::new(), (0, 0), 0);
+    loop {
+        calls += 1;
+        let given = raw::answer_from(file, from.0, from.1, buffers.lent()).read();
+        let (bytes, next) = match given {
+            Ok(LinesAnswer::End { bytes }) => (bytes, None),
+            Ok(LinesAnswer::More {
+                question,
+                line,
+                bytes,
+            }) => (bytes, Some((question, line))),
+            other => return Err(format!("no lines: {other:?}")),
+        };
+        lines.extend_from_slice(&buffers.out[..bytes]);
+        match next {
+            Some(next) => from = next,
+            None => return Ok((lines, calls)),
+        }
     }
-    let next = (answer >> 32) as usize;
-    Ok(Lines {
-        bytes: answer as u32 as usize,
-        next: (next != 0).then_some(next),
-    })
 }

@@ -17,7 +17,10 @@ use index_file::load::{Refusal, load};
 use index_file::records::Index;
 use index_file::words::{WORDS, with_plain_empty_lists, words};
 use roognaps::AnswerLine;
-use roognaps::raw::{self, ANSWER_BYTES, Buffers, Entry, PLACES, Place, RECORD_WORDS, TYPE_WORDS};
+use roognaps::raw::{
+    self, ANSWER_BYTES, Buffers, LineAnswer, LinesAnswer, Loaded, PLACES, Place, RECORD_WORDS,
+    TYPE_WORDS,
+};
 
 const _: () = assert!(WORDS == RECORD_WORDS, "both sides count as many words");
 
@@ -153,22 +156,22 @@ impl Target {
         let lent = self.file.last(length);
         let records = self.records.all();
         records.fill(0);
-        let verdict = raw::load(lent, records);
+        let verdict = raw::load(lent, records).read();
         match expected {
             Ok(index) => {
-                assert_eq!(verdict, 0, "loading");
+                assert_eq!(verdict, Ok(Loaded::Accepted), "loading");
                 let owed = with_plain_empty_lists(&words(file, index));
                 assert_eq!(with_plain_empty_lists(records), owed, "record words");
             }
             Err(refusal) => {
-                assert_eq!(verdict, packed(*refusal), "loading");
+                assert_eq!(verdict, Ok(Loaded::Refused(said(*refusal))), "loading");
                 assert!(all_are(records, 0), "records");
             }
         }
         self.loaded.clear();
         self.loaded.extend_from_slice(records);
         records.fill(WORD);
-        assert_eq!(raw::load(lent, records), verdict, "loading again");
+        assert_eq!(raw::load(lent, records).read(), verdict, "loading again");
         assert!(expected.is_ok() || all_are(records, 0), "records");
         // Each word is written as in a cleared buffer, or left.
         for (word, cleared) in records.iter().zip(&self.loaded) {
@@ -180,28 +183,41 @@ impl Target {
         self.loaded.copy_from_slice(records);
         records.fill(WORD);
         assert_eq!(
-            raw::load(lent, &mut records[1..]),
-            1 << 32,
+            raw::load(lent, &mut records[1..]).read(),
+            Ok(Loaded::Refused(roognaps::Refusal::ShortBuffer)),
             "a short buffer"
         );
         assert!(all_are(records, WORD), "records");
     }
 
-    fn call(&mut self, entry: Entry, length: usize, number: u32) -> u64 {
-        let file = self.file.last(length);
+    /// Fills the buffers and lends them for a call.
+    fn lent(&mut self, length: usize) -> (&[u8], Buffers<'_>) {
+        self.fill();
         let buffers = Buffers {
             records: self.records.all(),
             types: self.types.all(),
             places: self.places.all(),
             out: self.out.all(),
         };
-        raw::enter(entry, file, number, buffers)
+        (self.file.last(length), buffers)
+    }
+
+    fn answer(&mut self, length: usize, question: u32, line: u32) -> LineAnswer {
+        let (file, buffers) = self.lent(length);
+        let given = raw::answer(file, question, line, buffers).read();
+        given.expect("a result of answer")
+    }
+
+    fn answer_from(&mut self, length: usize, question: u32, line: u32) -> LinesAnswer {
+        let (file, buffers) = self.lent(length);
+        let given = raw::answer_from(file, question, line, buffers).read();
+        given.expect("a result of answer_from")
     }
 
     fn assert_zero_records_and_the_rest_as_it_was(&mut self) {
         assert!(all_are(self.records.all(), 0), "records");
         self.assert_types_and_places(WORD);
-        assert!(all_are(self.out.all(), BYTE), "out");
+        self.assert_out_as_it_was();
     }
 
     fn assert_types_and_places(&mut self, word: u32) {
@@ -215,14 +231,17 @@ impl Target {
         assert!(self.records.all() == self.loaded, "records");
     }
 
+    fn assert_out_as_it_was(&mut self) {
+        assert!(all_are(self.out.all(), BYTE), "out");
+    }
+
     fn refused_file(&mut self, length: usize, refusal: Refusal) {
-        self.fill();
-        let given = self.call(Entry::Answer, length, 0);
-        assert_eq!(given, packed(refusal), "answer");
+        let refusal = said(refusal);
+        let given = self.answer(length, 0, 0);
+        assert_eq!(given, LineAnswer::FileRefused(refusal), "answer");
         self.assert_zero_records_and_the_rest_as_it_was();
-        self.fill();
-        let given = self.call(Entry::AnswerFrom, length, 0);
-        assert_eq!(given, (1 << 63) + packed(refusal), "answer_from");
+        let given = self.answer_from(length, 0, 0);
+        assert_eq!(given, LinesAnswer::FileRefused(refusal), "answer_from");
         self.assert_zero_records_and_the_rest_as_it_was();
     }
 
@@ -242,76 +261,115 @@ impl Target {
             }
         }
         let step = count.div_ceil(ONE_BY_ONE).max(1);
-        for number in (0..count).step_by(step) {
-            self.one_question(length, number, &lines[number]);
+        for (number, line) in (0..).zip(&lines).step_by(step) {
+            self.one_line(length, number, line);
+            self.past_the_last(length, number);
+            self.gone_on(length, number);
         }
         self.behind_the_last(length, count as u32);
     }
 
-    /// Questions that aren't there: none is left at the count, and above it is refused.
+    /// Questions that aren't there: no line is left at the count, and above it is refused.
     fn behind_the_last(&mut self, length: usize, count: u32) {
-        self.fill();
-        let lacking = self.call(Entry::Answer, length, count);
-        assert_eq!(lacking, 5 << 32, "a question that isn't there");
-        self.assert_zero_records_and_the_rest_as_it_was();
-        self.fill();
-        let lacking = self.call(Entry::AnswerFrom, length, count + 1);
-        assert_eq!(lacking, (1 << 63) + (5 << 32), "from too far");
-        self.assert_zero_records_and_the_rest_as_it_was();
-        self.fill();
-        assert_eq!(self.call(Entry::AnswerFrom, length, count), 0, "no line");
-        self.assert_loaded_records();
-        self.assert_types_and_places(WORD);
-        assert!(all_are(self.out.all(), BYTE), "out");
+        let lacking = roognaps::Refusal::Link { line: 0 };
+        for line in [0, 1] {
+            let given = self.answer(length, count, line);
+            assert_eq!(given, LineAnswer::FileRefused(lacking), "no such question");
+            self.assert_zero_records_and_the_rest_as_it_was();
+            let given = self.answer_from(length, count + 1, line);
+            assert_eq!(given, LinesAnswer::FileRefused(lacking), "from too far");
+            self.assert_zero_records_and_the_rest_as_it_was();
+            let given = self.answer_from(length, count, line);
+            assert_eq!(given, LinesAnswer::End { bytes: 0 }, "no line");
+            self.assert_loaded_records();
+            self.assert_types_and_places(WORD);
+            self.assert_out_as_it_was();
+        }
     }
 
-    /// The lines as `answer_from` gives them, call by call.
+    /// The lines as `answer_from` gives them, call by call. Every question has one line.
     fn all_lines(&mut self, length: usize, count: usize) -> Vec<String> {
         let mut lines = Vec::new();
         loop {
-            self.fill();
-            let given = self.call(Entry::AnswerFrom, length, lines.len() as u32);
-            let (next, bytes) = ((given >> 32) as usize, given as u32 as usize);
-            assert_eq!(given >> 63, 0, "answer_from refuses");
-            let (text, behind) = self.out.all().split_at(bytes);
-            let text = std::str::from_utf8(text).expect("text");
-            assert!(text.is_empty() || text.ends_with('\n'), "a last line");
-            assert!(all_are(behind, BYTE), "behind the lines");
             let before = lines.len();
-            lines.extend(text.lines().map(str::to_string));
+            let given = self.answer_from(length, before as u32, 0);
+            let (bytes, is_more) = match given {
+                LinesAnswer::End { bytes } => (bytes, false),
+                LinesAnswer::More { bytes, .. } => (bytes, true),
+                LinesAnswer::FileRefused(refusal) => panic!("answer_from: {refusal}"),
+            };
+            lines.extend(self.lines_in_out(bytes));
             self.assert_loaded_records();
             if before < count {
                 assert!(lines.len() > before, "no line");
                 assert!(all_are(self.places.all(), [0; 5]), "places");
                 let is_refused = lines.last().is_some_and(|line| is_refused(line));
-                if next != 0 || is_refused {
+                if is_more || is_refused {
                     assert!(all_are(self.types.all(), 0), "types");
                 }
             }
-            match next {
-                0 => return lines,
-                _ => assert_eq!(next, lines.len(), "the next question"),
+            if !is_more {
+                return lines;
             }
+            let next = LinesAnswer::More {
+                question: lines.len() as u32,
+                line: 0,
+                bytes,
+            };
+            assert_eq!(given, next, "the next question");
         }
     }
 
-    fn one_question(&mut self, length: usize, number: usize, line: &str) {
-        self.fill();
-        let given = self.call(Entry::Answer, length, number as u32);
-        let bytes = given as u32 as usize;
+    /// The lines at the start of the answer buffer, behind which it is as it was.
+    fn lines_in_out(&mut self, bytes: usize) -> Vec<String> {
         let (text, behind) = self.out.all().split_at(bytes);
-        assert!(all_are(behind, BYTE), "behind the line");
-        match given >> 32 {
-            0 => assert_eq!(text, format!("{line}\n").as_bytes(), "answer"),
-            refusal => {
-                assert_eq!(bytes, 0, "a question's refusal has no line");
-                let end = format!("\trefused\t{refusal}");
+        let text = std::str::from_utf8(text).expect("text");
+        assert!(text.is_empty() || text.ends_with('\n'), "a last line");
+        assert!(all_are(behind, BYTE), "behind the lines");
+        text.split_terminator('\n').map(str::to_string).collect()
+    }
+
+    /// A question's line 0.
+    fn one_line(&mut self, length: usize, number: u32, line: &str) {
+        match self.answer(length, number, 0) {
+            LineAnswer::Line { bytes } => {
+                assert_eq!(self.lines_in_out(bytes), [line], "answer");
+            }
+            LineAnswer::Refused { refusal, bytes } => {
+                assert_eq!(bytes, 0, "a refused line has no bytes");
+                let end = format!("\trefused\t{}", refusal.number());
                 assert!(line.ends_with(&end), "{refusal} instead of {line:?}");
                 assert!(all_are(self.types.all(), 0), "types");
+                self.assert_out_as_it_was();
             }
+            other => panic!("{other:?} instead of {line:?}"),
         }
         self.assert_loaded_records();
         assert!(all_are(self.places.all(), [0; 5]), "places");
+    }
+
+    /// A question's line 1.
+    fn past_the_last(&mut self, length: usize, number: u32) {
+        let given = self.answer(length, number, 1);
+        assert_eq!(given, LineAnswer::PastLast, "line 1");
+        self.assert_loaded_records();
+        self.assert_types_and_places(0);
+        self.assert_out_as_it_was();
+    }
+
+    /// From line 1 of a question on is from the next question on: the result and every buffer.
+    fn gone_on(&mut self, length: usize, number: u32) {
+        let next = self.answer_from(length, number + 1, 0);
+        let types = self.types.all().to_vec();
+        let places = self.places.all().to_vec();
+        let out = self.out.all().to_vec();
+        self.assert_loaded_records();
+        let behind = self.answer_from(length, number, 1);
+        assert_eq!(behind, next, "going on past the last line");
+        self.assert_loaded_records();
+        assert!(self.types.all() == types, "types");
+        assert!(self.places.all() == places, "places");
+        assert!(self.out.all() == out, "out");
     }
 }
 
@@ -324,6 +382,8 @@ fn is_refused(line: &str) -> bool {
     line.split('\t').nth(3) == Some("refused")
 }
 
-fn packed(refusal: Refusal) -> u64 {
-    (u64::from(refusal.number) << 32) + refusal.line as u64
+/// The loader's refusal as the crate says it.
+fn said(refusal: Refusal) -> roognaps::Refusal {
+    let line = u32::try_from(refusal.line).expect("a line of a file");
+    roognaps::Refusal::from_number(refusal.number.into(), line).expect("a refusal of a file")
 }

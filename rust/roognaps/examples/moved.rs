@@ -8,7 +8,7 @@ use std::process::ExitCode;
 
 use index_file::load::load;
 use index_file::records::{DefinitionKind, Module, Node, TypeExpr};
-use roognaps::{Question, Resolver};
+use roognaps::{Question, Resolver, Said};
 
 fn main() -> ExitCode {
     let mut resolver = Resolver::new();
@@ -43,7 +43,9 @@ fn show(resolver: &mut Resolver, name: &str) -> Result<(), Box<dyn std::error::E
         let (start, end) = expression.span;
         let number = source.get(start as usize..end as usize).unwrap_or("?");
         let (function, returns) = around(module, start).unwrap_or(("?", "?"));
-        let ty = line.result?;
+        let Said::Type(ty) = line.result? else {
+            continue;
+        };
         let mark = if ty.to_string() == returns {
             ""
         } else {

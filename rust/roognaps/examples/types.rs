@@ -28,7 +28,7 @@ mod with_originals {
 
     use index_file::records::Index;
     use roognaps::export::Source;
-    use roognaps::{Question, Resolver, Type};
+    use roognaps::{Question, Resolver, Said, Type};
 
     pub fn run() -> Result<(), String> {
         let words: Vec<String> = std::env::args().skip(1).collect();
@@ -50,7 +50,8 @@ mod with_originals {
             let definition = &index.modules[module].definitions[definition];
             let place = place(&sources[module], definition.name_span.0 as usize);
             let said = match line.result {
-                Ok(ty) => named(&index, &ty),
+                Ok(Said::Type(ty)) => named(&index, &ty),
+                Ok(other) => other.to_string(),
                 Err(refusal) => refusal.to_string(),
             };
             printed.push_str(&format!("{place} {}: {said}\n", definition.name));

@@ -5,9 +5,10 @@ use std::str::FromStr;
 
 use crate::{Refusal, Type};
 
-/// What a question asks about, as an answer line names it: a kind of record, its module in the file
+/// What an answer line is about, as its first fields name it: a kind of record, its module in the file
 /// and its number in the module.
 #[derive(Debug, Clone, Copy, PartialEq, Eq, Hash)]
+#[non_exhaustive]
 pub enum Question {
     /// `expr`: the type of an expression, an E line.
     Expression {
@@ -100,20 +101,59 @@ impl fmt::Display for Answer {
     }
 }
 
-/// What became of one of many questions: its type, or refusal 6 to 10.
+/// What a line says where it isn't refused. Every line of index 1 has a type; lines that say something
+/// else are to come.
 #[derive(Debug, Clone, PartialEq, Eq, Hash)]
+#[non_exhaustive]
+pub enum Said {
+    /// `type`: the type of what the line is about.
+    Type(Type),
+}
+
+/// The fields of an answer line behind those of its [`Question`], parted by tabs.
+impl fmt::Display for Said {
+    fn fmt(&self, f: &mut fmt::Formatter<'_>) -> fmt::Result {
+        match self {
+            Self::Type(ty) => write!(f, "type\t{ty}"),
+        }
+    }
+}
+
+/// An answer line: what it is about, and what it says of it, or refusal 6 to 10.
+#[derive(Debug, Clone, PartialEq, Eq, Hash)]
+#[non_exhaustive]
 pub struct AnswerLine {
-    /// What was asked.
+    /// What it is about.
     pub question: Question,
-    /// The type, or why there is none.
-    pub result: Result<Type, Refusal>,
+    /// What it says, or why it says nothing.
+    pub result: Result<Said, Refusal>,
+}
+
+impl AnswerLine {
+    /// The type, if the line says one.
+    ///
+    /// ```
+    /// use roognaps::{AnswerLine, Type};
+    ///
+    /// let line: AnswerLine = "def\t0\t4\ttype\tu32".parse()?;
+    /// assert_eq!(line.ty(), Some(&Type::U32));
+    /// let refused: AnswerLine = "def\t0\t4\trefused\t7".parse()?;
+    /// assert_eq!(refused.ty(), None);
+    /// # Ok::<(), roognaps::NoAnswerLine>(())
+    /// ```
+    pub fn ty(&self) -> Option<&Type> {
+        match &self.result {
+            Ok(Said::Type(ty)) => Some(ty),
+            Err(_) => None,
+        }
+    }
 }
 
 /// The line that `resolve` prints, without its LF.
 impl fmt::Display for AnswerLine {
     fn fmt(&self, f: &mut fmt::Formatter<'_>) -> fmt::Result {
         match &self.result {
-            Ok(ty) => write!(f, "{}\ttype\t{ty}", self.question),
+            Ok(said) => write!(f, "{}\t{said}", self.question),
             Err(refusal) => write!(f, "{}\trefused\t{}", self.question, refusal.number()),
         }
     }
@@ -123,7 +163,7 @@ impl From<Answer> for AnswerLine {
     fn from(answer: Answer) -> Self {
         Self {
             question: answer.question,
-            result: Ok(answer.ty),
+            result: Ok(Said::Type(answer.ty)),
         }
     }
 }
@@ -146,11 +186,11 @@ impl std::error::Error for NoAnswerLine {}
 /// Reads exactly what `Display` writes.
 ///
 /// ```
-/// use roognaps::{AnswerLine, Question, Type};
+/// use roognaps::{AnswerLine, Question, Said, Type};
 ///
 /// let line: AnswerLine = "def\t0\t4\ttype\tu32".parse()?;
 /// assert_eq!(line.question, Question::Definition { module: 0, definition: 4 });
-/// assert_eq!(line.result, Ok(Type::U32));
+/// assert_eq!(line.result, Ok(Said::Type(Type::U32)));
 ///
 /// let error = "def\t0".parse::<AnswerLine>().unwrap_err();
 /// assert_eq!(error.to_string(), "\"def\\t0\" is no answer line");
@@ -170,25 +210,22 @@ impl FromStr for AnswerLine {
 }
 
 fn read_line(line: &str) -> Option<AnswerLine> {
-    let mut fields = line.splitn(5, '\t');
+    let mut fields = line.splitn(4, '\t');
     let kind = fields.next()?;
     let module = fields.next()?.parse().ok()?;
     let number = fields.next()?.parse().ok()?;
     let question = Question::read(kind, module, number)?;
-    let word = fields.next()?;
-    let rest = fields.next()?;
-    let result = match word {
-        "type" => Ok(rest.parse().ok()?),
-        "refused" => {
-            let refusal = Refusal::from_number(rest.parse().ok()?, 0)?;
-            if refusal.is_of_file() {
-                return None;
-            }
-            Err(refusal)
-        }
-        _ => return None,
-    };
+    let result = read_result(fields.next()?)?;
     Some(AnswerLine { question, result })
+}
+
+fn read_result(fields: &str) -> Option<Result<Said, Refusal>> {
+    let (word, rest) = fields.split_once('\t')?;
+    match word {
+        "type" => Some(Ok(Said::Type(rest.parse().ok()?))),
+        "refused" => Refusal::of_line(rest.parse().ok()?).map(Err),
+        _ => None,
+    }
 }
 
 #[cfg(test)]

@@ -16,7 +16,7 @@ pub use ::export::sources::{Message, Source, SourceError};
 pub use ::export::{ExportError, ModuleIndex, NameFault};
 pub use index_file::records::Index;
 /// A question as an [`Index`] has it, a Q line: with the context or the scope that it is asked in.
-/// What an answer line repeats of it is a [`Question`](crate::Question).
+/// What an answer line is about is a [`Question`](crate::Question).
 pub use index_file::records::Question as QuestionRecord;
 
 /// Why there are no answers. Its text is that of the error inside, which therefore isn't given a second
@@ -94,7 +94,7 @@ impl Resolver {
     /// };
     /// let (_, lines) = Resolver::new().ask_sources(&[source])?;
     /// assert_eq!(lines[0].to_string(), "expr\t0\t0\ttype\tu32");
-    /// assert_eq!(lines.last().unwrap().result, Ok(Type::U32));
+    /// assert_eq!(lines.last().and_then(|line| line.ty()), Some(&Type::U32));
     /// # Ok::<(), roognaps::export::AskError>(())
     /// ```
     pub fn ask_sources(
@@ -108,7 +108,7 @@ impl Resolver {
         })?
     }
 
-    /// What becomes of the questions of an index, however many.
+    /// The lines of an index's questions, however many.
     pub fn ask_index(&mut self, mut index: Index) -> Result<Vec<AnswerLine>, AskError> {
         let questions = std::mem::take(&mut index.questions);
         on_large_stack(|| {

@@ -34,11 +34,11 @@
 //!
 //! # What is proved
 //!
-//! The library: for any bytes, any question number and any buffers, what a call gives and what it
-//! leaves in the buffers is what the definition says (`include/roognaps.h` has it call by call). It
-//! reads and writes nothing outside them, has no state, allocates nothing and calls nothing but
-//! `memcpy` and its kin. Not proved is this crate, which is small: it lends the buffers and reads the
-//! lines. What a [`Resolver`] gets is looked at before it is used; where it makes no sense, the call
+//! The library: for any bytes, any numbers of a question and a line and any buffers, what a call gives
+//! and what it leaves in the buffers is what the definition says (`include/roognaps.h` has it call by
+//! call). It reads and writes nothing outside them, has no state, allocates nothing and calls nothing
+//! but `memcpy` and its kin. Not proved is this crate, which is small: it lends the buffers and reads
+//! the lines. What a [`Resolver`] gets is looked at before it is used; where it makes no sense, the call
 //! gives [`Error::Library`].
 //!
 //! Nothing here panics, whatever it is given. Only what a caller hands to [`on_large_stack`], and with
@@ -69,13 +69,15 @@
 mod answer;
 #[cfg(all(feature = "export", originals))]
 pub mod export;
+mod lines;
 pub mod raw;
 mod refusal;
 mod resolver;
 mod stack;
 mod types;
 
-pub use answer::{Answer, AnswerLine, NoAnswerLine, Question};
+pub use answer::{Answer, AnswerLine, NoAnswerLine, Question, Said};
+pub use lines::Lines;
 pub use refusal::{Error, LibraryFault, Refusal, Whose};
 pub use resolver::Resolver;
 pub use stack::{STACK_BYTES, on_large_stack};

@@ -6,8 +6,10 @@ use std::io;
 use crate::NoAnswerLine;
 
 /// A refusal, 1 to 10. `docs/REFUSALS.md` has each with its smallest file, with
-/// what it leaves in the buffers, and with what to do.
+/// what it leaves in the buffers, and with what to do. Names, numbers and meanings are those of
+/// `include/roognaps.h`.
 #[derive(Debug, Clone, Copy, PartialEq, Eq, Hash)]
+#[non_exhaustive]
 pub enum Refusal {
     /// 1: a buffer is too short. A [`Resolver`](crate::Resolver) has buffers of the right size, so it
     /// never gives this one.
@@ -88,6 +90,22 @@ impl Refusal {
         })
     }
 
+    /// The refusal of a file, 1 to 5, if it can have this line: 1 has none, 2 the first, 4 always one.
+    pub(crate) fn of_file(number: u32, line: u32) -> Option<Self> {
+        let fits = match number {
+            1 => line == 0,
+            2 => line == 1,
+            4 => line > 0,
+            _ => number <= 5,
+        };
+        Self::from_number(number, line).filter(|_| fits)
+    }
+
+    /// The refusal of a line, 6 to 10.
+    pub(crate) fn of_line(number: u32) -> Option<Self> {
+        Self::from_number(number, 0).filter(|refusal| !refusal.is_of_file())
+    }
+
     /// 1 to 10.
     pub fn number(self) -> u32 {
         match self {
@@ -136,7 +154,7 @@ impl Refusal {
         }
     }
 
-    /// Whether the whole file is refused (1 to 5), not one question of it (6 to 10).
+    /// Whether the whole file is refused (1 to 5), not one line of its answers (6 to 10).
     pub fn is_of_file(self) -> bool {
         self.number() <= 5
     }
@@ -169,9 +187,13 @@ impl std::error::Error for Refusal {}
 /// Why a call gives no answer. Its text is that of the refusal or the fault inside, which therefore
 /// isn't given a second time as its source.
 #[derive(Debug, Clone, PartialEq, Eq)]
+#[non_exhaustive]
 pub enum Error {
-    /// The file or the question is refused.
+    /// The file or the line is refused.
     Refused(Refusal),
+    /// A type was asked for, and the question has no line, or one without a type. Every question of
+    /// index 1 has one line, with a type or a refusal.
+    Untyped,
     /// What the library gave is no answer. It is another library than this crate was written for.
     Library(LibraryFault),
     /// The system gave no thread with stack enough.
@@ -192,6 +214,7 @@ impl fmt::Display for Error {
     fn fmt(&self, f: &mut fmt::Formatter<'_>) -> fmt::Result {
         match self {
             Self::Refused(refusal) => write!(f, "{refusal}"),
+            Self::Untyped => f.write_str("the question's first line has no type"),
             Self::Library(fault) => write!(f, "{fault}"),
             Self::Thread(kind) => write!(f, "no thread with stack enough: {kind}"),
         }
@@ -267,5 +290,24 @@ mod tests {
         assert_eq!(Refusal::Limit { line: 0 }.line(), None);
         assert_eq!(Refusal::Link { line: 0 }.whose(), Whose::Caller);
         assert_eq!(Refusal::Link { line: 2 }.whose(), Whose::Exporter);
+    }
+
+    #[test]
+    fn of_a_file_with_its_line_or_of_a_line() {
+        let lines = [0, 1, 7, u32::MAX];
+        let of_file = |number| lines.map(|line| Refusal::of_file(number, line).is_some());
+        assert_eq!(of_file(0), [false; 4]);
+        assert_eq!(of_file(1), [true, false, false, false]);
+        assert_eq!(of_file(2), [false, true, false, false]);
+        assert_eq!(of_file(3), [true; 4]);
+        assert_eq!(of_file(4), [false, true, true, true]);
+        assert_eq!(of_file(5), [true; 4]);
+        for number in [6, 7, 8, 9, 10, 11, u32::MAX] {
+            assert_eq!(of_file(number), [false; 4], "{number}");
+        }
+        for number in 0..20 {
+            let owed = Refusal::from_number(number, 0).filter(|_| number > 5);
+            assert_eq!(Refusal::of_line(number), owed, "{number}");
+        }
     }
 }

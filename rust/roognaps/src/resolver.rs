@@ -2,11 +2,12 @@
 
 use std::fmt;
 
-use crate::raw::{self, ANSWER_BYTES, Buffers, Entry, PLACES, Place, RECORD_WORDS, TYPE_WORDS};
-use crate::{Answer, AnswerLine, Error, LibraryFault, Refusal, on_large_stack};
-
-/// A file has no more questions.
-const QUESTIONS: u32 = 256;
+use crate::lines::{Lines, Part, Position};
+use crate::raw::{
+    self, ANSWER_BYTES, Buffers, LineAnswer, LinesAnswer, Loaded, PLACES, Place, RECORD_WORDS,
+    TYPE_WORDS,
+};
+use crate::{Answer, AnswerLine, Error, LibraryFault, Said, on_large_stack};
 
 /// The buffers of the library, allocated once, and the calls that use them.
 ///
@@ -75,23 +76,93 @@ impl Resolver {
     /// assert_eq!(refused, Err(Error::Refused(Refusal::Form { line: 2 })));
     /// ```
     pub fn check(&mut self, file: &[u8]) -> Result<(), Error> {
-        let verdict = raw::load(file, &mut self.records);
-        match verdict {
-            0 => Ok(()),
-            _ => Err(refused((verdict >> 32) as u32, verdict as u32, 1..=5)),
+        match raw::load(file, &mut self.records).read()? {
+            Loaded::Accepted => Ok(()),
+            Loaded::Refused(refusal) => Err(refusal.into()),
         }
     }
 
-    /// The type that the question of a number has. Questions are the Q lines, numbered from 0.
+    /// The type in the first line of the question of a number. Questions are the Q lines, numbered from
+    /// 0.
     ///
-    /// The error is the refusal of the file, 1 to 5, or of the question, 6 to 10; or 5 without a line
-    /// where the file has no question of this number.
+    /// The error is that of [`line`](Self::line), or [`Error::Untyped`] where there is no such line, or
+    /// one without a type.
     pub fn answer(&mut self, file: &[u8], question: u32) -> Result<Answer, Error> {
-        on_large_stack(|| self.one(file, question))?
+        match self.line(file, question, 0)? {
+            Some(AnswerLine {
+                question,
+                result: Ok(Said::Type(ty)),
+            }) => Ok(Answer { question, ty }),
+            _ => Err(Error::Untyped),
+        }
     }
 
-    /// What becomes of every question of a file, in the order of its Q lines. A refused question
-    /// (6 to 10) is a line among the others; a refused file (1 to 5) is the error.
+    /// A line of the question of a number, by its own number, both from 0. None past the question's last
+    /// line.
+    ///
+    /// The error is the refusal of the file, 1 to 5, or of the line, 6 to 10; or 5 without a line of the
+    /// file where the file has no question of this number.
+    ///
+    /// ```
+    /// use roognaps::{Resolver, Type};
+    ///
+    /// let file = b"index\t1\nQ\tdef\t0\t0\n";
+    /// let mut resolver = Resolver::new();
+    /// let line = resolver.line(file, 0, 0)?;
+    /// assert_eq!(line.as_ref().and_then(|line| line.ty()), Some(&Type::Error));
+    /// assert_eq!(resolver.line(file, 0, 1)?, None);
+    /// # Ok::<(), roognaps::Error>(())
+    /// ```
+    pub fn line(
+        &mut self,
+        file: &[u8],
+        question: u32,
+        line: u32,
+    ) -> Result<Option<AnswerLine>, Error> {
+        on_large_stack(|| self.one(file, question, line))?
+    }
+
+    /// The lines of a file's questions, in the order of its Q lines, some at a time. A refused line
+    /// (6 to 10) is among the others; a refused file (1 to 5) is an error, and the last thing that the
+    /// iterator gives.
+    ///
+    /// Each part of some 4,000 bytes is a call of the library, which loads the file again. Outside
+    /// [`on_large_stack`] each runs on a thread of its own.
+    ///
+    /// ```
+    /// use roognaps::{Error, Refusal, Resolver};
+    ///
+    /// let mut resolver = Resolver::new();
+    /// for line in resolver.lines(b"index\t1\nQ\tdef\t0\t0\nQ\tdef\t0\t1\n") {
+    ///     println!("{}", line?);
+    /// }
+    /// let mut lines = resolver.lines(b"index\t2\n");
+    /// assert_eq!(lines.next(), Some(Err(Error::Refused(Refusal::FirstLine))));
+    /// assert_eq!(lines.next(), None);
+    /// # Ok::<(), Error>(())
+    /// ```
+    pub fn lines<'a>(&'a mut self, file: &'a [u8]) -> Lines<'a> {
+        self.lines_from(file, 0, 0)
+    }
+
+    /// The same from a question's line on, both numbered from 0; where the question has no such line,
+    /// from the next question on. At the number of questions there are none, above it the file is
+    /// refused: 5 without a line of the file.
+    ///
+    /// ```
+    /// let file = b"index\t1\nQ\tdef\t0\t0\nQ\tdef\t0\t1\n";
+    /// let mut resolver = roognaps::Resolver::new();
+    /// let second: Vec<_> = resolver.lines_from(file, 1, 0).collect();
+    /// let behind_the_first: Vec<_> = resolver.lines_from(file, 0, 1).collect();
+    /// assert_eq!(second.len(), 1);
+    /// assert_eq!(second, behind_the_first);
+    /// ```
+    pub fn lines_from<'a>(&'a mut self, file: &'a [u8], question: u32, line: u32) -> Lines<'a> {
+        Lines::new(self, file, Position { question, line })
+    }
+
+    /// All [`lines`](Self::lines) of a file. A refused line (6 to 10) is among the others; a refused
+    /// file (1 to 5) is the error.
     ///
     /// ```
     /// use roognaps::{Refusal, Resolver, Type};
@@ -103,23 +174,15 @@ impl Resolver {
     ///     Q\tdef\t0\t0\nQ\tdef\t0\t1\n";
     /// let lines = Resolver::new().answers(file)?;
     /// assert_eq!(lines[0].result, Err(Refusal::Ring));
-    /// assert_eq!(lines[1].result, Ok(Type::Error));
+    /// assert_eq!(lines[1].ty(), Some(&Type::Error));
     /// # Ok::<(), roognaps::Error>(())
     /// ```
     pub fn answers(&mut self, file: &[u8]) -> Result<Vec<AnswerLine>, Error> {
-        let mut lines = Vec::new();
-        self.parts(file, |text| {
-            let before = lines.len();
-            for line in text.lines() {
-                lines.push(line.parse()?);
-            }
-            Ok(lines.len() - before)
-        })?;
-        Ok(lines)
+        on_large_stack(|| self.lines(file).collect())?
     }
 
-    /// What the program `resolve` prints for a file: a line for each question, or the line of a refused
-    /// file.
+    /// What the program `resolve` prints for a file: the lines of its questions, or the line of a
+    /// refused file.
     ///
     /// ```
     /// let mut resolver = roognaps::Resolver::new();
@@ -128,103 +191,81 @@ impl Resolver {
     /// # Ok::<(), roognaps::Error>(())
     /// ```
     pub fn resolve(&mut self, file: &[u8]) -> Result<String, Error> {
-        let mut printed = String::new();
-        let end = self.parts(file, |text| {
-            printed.push_str(text);
-            Ok(text.lines().count())
-        });
-        match end {
+        match on_large_stack(|| self.texts(file))? {
             Err(Error::Refused(refusal)) => {
                 let line = refusal.line().unwrap_or(0);
                 Ok(format!("refused\t{}\t{line}\n", refusal.number()))
             }
-            _ => end.map(|()| printed),
+            printed => printed,
         }
     }
 
-    fn one(&mut self, file: &[u8], question: u32) -> Result<Answer, Error> {
-        let given = self.enter(Entry::Answer, file, question);
-        let (number, length) = ((given >> 32) as u32, given as u32);
-        if number > 0 {
-            return Err(refused(number, length, 1..=10));
-        }
-        let text = self.text(length)?;
-        let line: Option<AnswerLine> = text.strip_suffix('\n').and_then(|line| line.parse().ok());
-        match line {
-            Some(AnswerLine {
-                question,
-                result: Ok(ty),
-            }) => Ok(Answer { question, ty }),
-            _ => Err(LibraryFault::new(format!("{text:?} is no line of a type")).into()),
-        }
-    }
-
-    /// Hands the lines over, some at a time, to what counts them.
-    fn parts(
-        &mut self,
-        file: &[u8],
-        mut take: impl FnMut(&str) -> Result<usize, LibraryFault> + Send,
-    ) -> Result<(), Error> {
-        on_large_stack(|| {
-            let mut from = 0;
-            loop {
-                let next = self.part(file, from, &mut take)?;
-                match next {
-                    0 => return Ok(()),
-                    _ => from = next,
-                }
-            }
-        })?
-    }
-
-    /// The lines from a question on; gives the question to go on with, 0 at the end.
-    fn part(
-        &mut self,
-        file: &[u8],
-        from: u32,
-        take: &mut impl FnMut(&str) -> Result<usize, LibraryFault>,
-    ) -> Result<u32, Error> {
-        let given = self.enter(Entry::AnswerFrom, file, from);
-        let (high, low) = ((given >> 32) as u32, given as u32);
-        if high >> 31 == 1 {
-            return Err(refused(high & 0x7fff_ffff, low, 1..=5));
-        }
-        let text = self.text(low)?;
-        if !text.is_empty() && !text.ends_with('\n') {
-            return Err(LibraryFault::new("the last line has no end").into());
-        }
-        let count = take(text)?;
-        let counted = from as usize + count;
-        if high > 0 && (count == 0 || counted != high as usize || high > QUESTIONS) {
-            return Err(LibraryFault::new(format!(
-                "{count} lines from question {from} on, and {high} is said to be next"
-            ))
-            .into());
-        }
-        Ok(high)
-    }
-
-    fn text(&self, length: u32) -> Result<&str, LibraryFault> {
-        let bytes = usize::try_from(length).ok().and_then(|n| self.out.get(..n));
-        let text = bytes.and_then(|bytes| std::str::from_utf8(bytes).ok());
-        text.ok_or_else(|| LibraryFault::new(format!("{length} bytes of answer that are no text")))
-    }
-
-    fn enter(&mut self, entry: Entry, file: &[u8], number: u32) -> u64 {
-        let buffers = Buffers {
+    fn buffers(&mut self) -> Buffers<'_> {
+        Buffers {
             records: &mut self.records,
             types: &mut self.types,
             places: &mut self.places,
             out: &mut self.out,
+        }
+    }
+
+    fn one(&mut self, file: &[u8], question: u32, line: u32) -> Result<Option<AnswerLine>, Error> {
+        match raw::answer(file, question, line, self.buffers()).read()? {
+            LineAnswer::Line { bytes } => Ok(Some(answered(self.text(bytes)?)?)),
+            LineAnswer::PastLast => Ok(None),
+            LineAnswer::Refused { refusal, .. } | LineAnswer::FileRefused(refusal) => {
+                Err(refusal.into())
+            }
+        }
+    }
+
+    /// The lines from a position on that fit into the answer buffer.
+    pub(crate) fn part(&mut self, file: &[u8], from: Position) -> Result<Part<'_>, Error> {
+        let given = raw::answer_from(file, from.question, from.line, self.buffers());
+        let (bytes, next) = match given.read()? {
+            LinesAnswer::End { bytes } => (bytes, None),
+            LinesAnswer::More {
+                question,
+                line,
+                bytes,
+            } => (bytes, Some(Position { question, line })),
+            LinesAnswer::FileRefused(refusal) => return Err(refusal.into()),
         };
-        raw::enter(entry, file, number, buffers)
+        if let Some(next) = next.filter(|next| *next <= from) {
+            let said = format!("{next:?} isn't behind {from:?}");
+            return Err(LibraryFault::new(said).into());
+        }
+        let text = self.text(bytes)?;
+        Ok(Part { text, next })
+    }
+
+    /// The lines of all parts, as they are.
+    fn texts(&mut self, file: &[u8]) -> Result<String, Error> {
+        let mut texts = String::new();
+        let mut from = Some(Position::default());
+        while let Some(position) = from {
+            let part = self.part(file, position)?;
+            texts.push_str(part.text);
+            from = part.next;
+        }
+        Ok(texts)
+    }
+
+    /// Whole lines at the start of the answer buffer.
+    fn text(&self, bytes: usize) -> Result<&str, LibraryFault> {
+        let text = self.out.get(..bytes);
+        let text = text.and_then(|bytes| std::str::from_utf8(bytes).ok());
+        text.filter(|text| text.is_empty() || text.ends_with('\n'))
+            .ok_or_else(|| LibraryFault::new(format!("{bytes} bytes of answer are no lines")))
     }
 }
 
-/// The error of a refusal whose number is among those that the call may give.
-fn refused(number: u32, line: u32, among: std::ops::RangeInclusive<u32>) -> Error {
-    match Refusal::from_number(number, line) {
-        Some(refusal) if among.contains(&number) => refusal.into(),
-        _ => LibraryFault::new(format!("there is no refusal {number} here")).into(),
+/// A line that isn't refused, from its text with its LF.
+fn answered(text: &str) -> Result<AnswerLine, LibraryFault> {
+    let line = text.strip_suffix('\n').unwrap_or(text);
+    let read: AnswerLine = line.parse()?;
+    match read.result {
+        Ok(_) => Ok(read),
+        Err(_) => Err(LibraryFault::new(format!("{line:?} is a refused line"))),
     }
 }

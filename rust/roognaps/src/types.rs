@@ -22,6 +22,7 @@ const DEEPEST: usize = 256;
 /// # Ok::<(), roognaps::NoType>(())
 /// ```
 #[derive(Debug, Clone, PartialEq, Eq, Hash)]
+#[non_exhaustive]
 pub enum Type {
     /// `felt`
     Felt,

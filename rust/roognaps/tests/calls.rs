@@ -3,7 +3,7 @@
 use std::fmt::Write;
 use std::thread;
 
-use roognaps::{Error, Refusal, Resolver, Type};
+use roognaps::{AnswerLine, Error, Refusal, Resolver, Type};
 
 /// A file with one module and one scope, these lines, and one question about expression 0.
 fn expressions(lines: impl IntoIterator<Item = String>) -> Vec<u8> {
@@ -70,6 +70,10 @@ fn the_deepest_questions_from_a_small_stack() {
             ty.to_string(),
             format!("{}bool{}", "(".repeat(249), ")".repeat(249))
         );
+        let lines: Vec<_> = resolver.lines(&file).collect();
+        let line = format!("expr\t0\t0\ttype\t{ty}").parse();
+        let line: AnswerLine = line.expect("an answer line");
+        assert_eq!(lines, [Ok(line)]);
         for file in [chain(255, nested), chain(255, tuples)] {
             let given = resolver.answers(&file).expect("accepted");
             assert_eq!(given.len(), 1);
@@ -126,21 +130,53 @@ fn sizes_of_files() {
     );
 }
 
+const LACKING: Error = Error::Refused(Refusal::Link { line: 0 });
+
 #[test]
 fn question_numbers() {
     let file = b"index\t1\nQ\tdef\t0\t0\n";
     let mut resolver = Resolver::new();
     for number in [1, 255, 256, 65_536, 1 << 31, u32::MAX] {
-        let given = resolver.answer(file, number);
-        assert_eq!(given, Err(Error::Refused(Refusal::Link { line: 0 })));
+        assert_eq!(resolver.answer(file, number), Err(LACKING));
+        for line in [0, 1, u32::MAX] {
+            assert_eq!(resolver.line(file, number, line), Err(LACKING));
+            // At the number of questions there is no line left; above it there is no such place.
+            let left: Vec<_> = resolver.lines_from(file, number, line).collect();
+            let owed = if number == 1 {
+                vec![]
+            } else {
+                vec![Err(LACKING)]
+            };
+            assert_eq!(left, owed, "{number}, {line}");
+        }
     }
     let given = resolver.answer(b"index\t1\nX\n", 9);
     assert_eq!(given, Err(Error::Refused(Refusal::Form { line: 2 })));
 }
 
-/// 256 lines of the longest text don't fit into one answer buffer.
+/// Every question of index 1 has one line.
 #[test]
-fn many_long_lines() {
+fn line_numbers() {
+    let file = b"index\t1\nQ\tdef\t0\t0\nQ\tdef\t0\t1\n";
+    let mut resolver = Resolver::new();
+    let lines = resolver.answers(file).expect("accepted");
+    let [first, second] = &lines[..] else {
+        panic!("{lines:?}");
+    };
+    assert_eq!(resolver.line(file, 0, 0), Ok(Some(first.clone())));
+    assert_eq!(resolver.line(file, 1, 0), Ok(Some(second.clone())));
+    for line in [1, 2, 65_535, 65_536, 1 << 31, u32::MAX] {
+        assert_eq!(resolver.line(file, 0, line), Ok(None));
+        assert_eq!(resolver.line(file, 1, line), Ok(None));
+        let left: Vec<_> = resolver.lines_from(file, 0, line).collect();
+        assert_eq!(left, [Ok(second.clone())], "{line}");
+        assert_eq!(resolver.lines_from(file, 1, line).next(), None, "{line}");
+    }
+}
+
+/// 256 lines of the longest text, and of every third one over that: they don't fit into one answer
+/// buffer.
+fn long_lines() -> Vec<u8> {
     let mut file = "index\t1\nM\tm\nS\t-\tmodule\nT\tfelt\nT\ttuple".to_string();
     // `(felt,felt,..)` of 819 felts has 4,096 bytes.
     file.push_str(&"\t0".repeat(819));
@@ -151,14 +187,48 @@ fn many_long_lines() {
         let t = if number % 3 == 2 { 2 } else { 1 };
         writeln!(file, "Q\ttype\t0\t{t}\t0").expect("a string");
     }
-    let lines = Resolver::new().answers(file.as_bytes()).expect("accepted");
+    file.into_bytes()
+}
+
+#[test]
+fn many_long_lines() {
+    let lines = Resolver::new().answers(&long_lines()).expect("accepted");
     assert_eq!(lines.len(), 256);
     for (number, line) in lines.iter().enumerate() {
-        match &line.result {
-            Ok(ty) => assert_eq!(ty.to_string().len(), 4_096),
-            Err(refusal) => assert_eq!((number % 3, *refusal), (2, Refusal::LongText)),
+        match line.ty() {
+            Some(ty) => assert_eq!(ty.to_string().len(), 4_096),
+            None => assert_eq!((number % 3, &line.result), (2, &Err(Refusal::LongText))),
         }
     }
+}
+
+/// The lines come in many parts; whoever stops among them goes on from there, or with another file.
+#[test]
+fn lines_some_at_a_time() {
+    let file = long_lines();
+    let mut resolver = Resolver::new();
+    let all = resolver.answers(&file).expect("accepted");
+    for taken in [0, 1, 2, 3, 100, 255, 256] {
+        let first: Vec<_> = resolver.lines(&file).take(taken).collect();
+        resolver.check(b"index\t1\n").expect("accepted");
+        let rest: Vec<_> = resolver.lines_from(&file, taken as u32, 0).collect();
+        let lines: Result<Vec<_>, _> = first.into_iter().chain(rest).collect();
+        assert_eq!(lines.as_ref(), Ok(&all), "{taken}");
+    }
+}
+
+#[test]
+fn an_error_ends_the_lines() {
+    let mut resolver = Resolver::new();
+    let mut lines = resolver.lines(b"index\t1\nX\n");
+    assert_eq!(
+        format!("{lines:?}"),
+        "Lines { file_bytes: 10, from: Some(Position { question: 0, line: 0 }), lines_read: 0 }"
+    );
+    let refused = Error::Refused(Refusal::Form { line: 2 });
+    assert_eq!(lines.next(), Some(Err(refused)));
+    assert_eq!(lines.next(), None);
+    assert_eq!(lines.next(), None);
 }
 
 /// Nothing of one call is seen by the next.

@@ -37,7 +37,7 @@ fn three_hundred_questions() {
             },
             _ => Type::U32,
         };
-        assert_eq!(line.result, Ok(owed), "{line}");
+        assert_eq!(line.ty(), Some(&owed), "{line}");
     }
 
     let indexes = semantic_indexes(&sources).expect("right source");

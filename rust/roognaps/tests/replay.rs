@@ -35,15 +35,7 @@ fn replay_one(resolver: &mut Resolver, vector: &Vector) {
     match load(index) {
         Err(refusal) => {
             let owed = (u32::from(refusal.number), refusal.line as u32);
-            for given in [
-                resolver.check(index).err(),
-                resolver.answers(index).err(),
-                resolver.answer(index, 0).err(),
-            ] {
-                let given = given.and_then(|error| error.refusal()).expect(name);
-                let line = given.line().unwrap_or(0);
-                assert_eq!((given.number(), line), owed, "{name}");
-            }
+            refused(resolver, name, index, owed);
         }
         Ok(loaded) => {
             assert_eq!(resolver.check(index), Ok(()), "{name}");
@@ -51,18 +43,48 @@ fn replay_one(resolver: &mut Resolver, vector: &Vector) {
             let printed: Vec<String> = lines.iter().map(AnswerLine::to_string).collect();
             assert_eq!(printed, answer.lines().collect::<Vec<_>>(), "{name}");
             assert_eq!(lines.len(), loaded.questions.len(), "{name}");
-            for (number, line) in lines.iter().enumerate() {
-                let given = resolver.answer(index, number as u32);
-                match &line.result {
-                    Ok(_) => assert_eq!(given.map(AnswerLine::from).as_ref(), Ok(line), "{name}"),
-                    Err(refusal) => assert_eq!(given, Err(Error::Refused(*refusal)), "{name}"),
-                }
-            }
-            let lacking = resolver.answer(index, lines.len() as u32);
-            let refusal = lacking.expect_err(name).refusal().expect(name);
-            assert_eq!((refusal.number(), refusal.line()), (5, None), "{name}");
+            one_by_one(resolver, name, index, &lines);
         }
     }
+}
+
+/// Every call refuses the file with this number and line.
+fn refused(resolver: &mut Resolver, name: &str, index: &[u8], owed: (u32, u32)) {
+    let among_the_lines = resolver.lines_from(index, 0, 1).find_map(Result::err);
+    for given in [
+        resolver.check(index).err(),
+        resolver.answers(index).err(),
+        resolver.answer(index, 0).err(),
+        resolver.line(index, 0, 1).err(),
+        among_the_lines,
+    ] {
+        let given = given.and_then(|error| error.refusal()).expect(name);
+        let line = given.line().unwrap_or(0);
+        assert_eq!((given.number(), line), owed, "{name}");
+    }
+}
+
+/// Each question has one line, which is the one among all.
+fn one_by_one(resolver: &mut Resolver, name: &str, index: &[u8], lines: &[AnswerLine]) {
+    for (number, line) in (0..).zip(lines) {
+        let given = resolver.answer(index, number);
+        let owed = match &line.result {
+            Ok(_) => Ok(Some(line.clone())),
+            Err(refusal) => Err(Error::Refused(*refusal)),
+        };
+        let given = given.map(|answer| Some(AnswerLine::from(answer)));
+        assert_eq!(given, owed, "{name}");
+        assert_eq!(resolver.line(index, number, 0), owed, "{name}");
+        assert_eq!(resolver.line(index, number, 1), Ok(None), "{name}");
+    }
+    for number in [0, lines.len() / 2, lines.len().saturating_sub(1)] {
+        let left = resolver.lines_from(index, number as u32, 1);
+        let left: Vec<AnswerLine> = left.collect::<Result<_, _>>().expect(name);
+        assert_eq!(left, lines.get(number + 1..).unwrap_or_default(), "{name}");
+    }
+    let lacking = resolver.answer(index, lines.len() as u32);
+    let refusal = lacking.expect_err(name).refusal().expect(name);
+    assert_eq!((refusal.number(), refusal.line()), (5, None), "{name}");
 }
 
 #[test]

@@ -1,33 +1,46 @@
 //! With a library that answers at random (tools/robust/wrong.c) every call gives a value and ends.
 
-use roognaps::{Error, Resolver, on_large_stack};
+use roognaps::{AnswerLine, Error, Resolver, on_large_stack};
+
+/// Answers, refusals, and results that make no sense.
+type Counts = [usize; 3];
+
+fn count<T>(counts: &mut Counts, end: Result<T, Error>) {
+    match end {
+        // A random library may well say that a question has no line.
+        Ok(_) | Err(Error::Untyped) => counts[0] += 1,
+        Err(Error::Refused(refusal)) => {
+            assert!((1..=10).contains(&refusal.number()));
+            counts[1] += 1;
+        }
+        Err(error) => {
+            assert!(!error.to_string().is_empty());
+            counts[2] += 1;
+        }
+    }
+}
+
+/// An error among the lines is the last thing.
+fn lines(resolver: &mut Resolver, question: u32) -> Result<Vec<AnswerLine>, Error> {
+    let mut lines = resolver.lines_from(b"", question, 0);
+    let read: Result<Vec<AnswerLine>, Error> = lines.by_ref().collect();
+    assert_eq!(lines.next(), None);
+    read
+}
 
 #[test]
 #[ignore = "needs another library; tools/library_runs.py makes it and runs this"]
 fn no_call_panics() {
     let counts = on_large_stack(|| {
         let mut resolver = Resolver::new();
-        let mut counts = [0usize; 3];
+        let mut counts = Counts::default();
         for number in 0..50_000 {
-            let ends = [
-                resolver.check(b"").map(|()| 0),
-                resolver.answer(b"", number).map(|a| a.to_string().len()),
-                resolver.answers(b"").map(|lines| lines.len()),
-                resolver.resolve(b"").map(|text| text.len()),
-            ];
-            for end in ends {
-                match end {
-                    Ok(_) => counts[0] += 1,
-                    Err(Error::Refused(refusal)) => {
-                        assert!((1..=10).contains(&refusal.number()));
-                        counts[1] += 1;
-                    }
-                    Err(error) => {
-                        assert!(!error.to_string().is_empty());
-                        counts[2] += 1;
-                    }
-                }
-            }
+            count(&mut counts, resolver.check(b""));
+            count(&mut counts, resolver.answer(b"", number));
+            count(&mut counts, resolver.line(b"", number, number % 3));
+            count(&mut counts, resolver.answers(b""));
+            count(&mut counts, lines(&mut resolver, number % 300));
+            count(&mut counts, resolver.resolve(b""));
         }
         counts
     });

@@ -18,9 +18,10 @@ enum-told c = search needs
 
 answer-loaded-requires : tie.Need-answer-loaded-requires
 answer-loaded-requires c κs =
+    let start = c .before .before .before .before .before .before .before .before .before .before .before .before .before .before in
     let load = c .before .before .before .before .before .before .before .before .load in
-    let pre = c .before .before .before .before .before .before .before .before .before .before .before .before .before .before .pre in
-    let a = (c .before .before .before .before .before .before .before .before .before .before .before .before .before .before .args) in
+    let pre = start .pre in
+    let a = start .args in
     (file-loaded (a .file .now) (a .words .now) (load .last .1 .0) (a .types .now) (a .demands .now) (pre .0) (subst (Filled (a .file .now) (a .words .now) (load .last .1 .0)) ((c .before .before .before .before .enum-told) .given .1) (load .ensures .1 (omega (arith, pre .0 .words-long)))), pre .1)
 
 same-length : tie.Need-same-length
@@ -28,12 +29,13 @@ same-length c = search needs
 
 returns : tie.Need-returns
 returns c =
+    let start = c .before .before .before .before .before .before .before .before .before .before .before in
     let load = c .before .before .before .before .before .load in
     let refusal = c .before .refusal in
-    let pre = c .before .before .before .before .before .before .before .before .before .before .before .pre in
-    let a = (c .before .before .before .before .before .before .before .before .before .before .before .args) in
+    let pre = start .pre in
+    let a = start .args in
     let filled = (subst (Filled (a .file .now) (a .words .now) (load .last .1 .0)) (refusal .given .1) (load .ensures .1 (omega (arith, pre .0 .words-long)))) in
-    refused-file (a .file .now) (a .number) (a .types .now) (a .demands .now) (a .out .now) (refusal .given .0 .0) (refusal .given .0 .1 .0) (load .last .1 .0) (file-refused (a .file .now) (a .words .now) (load .last .1 .0) (a .types .now) (a .demands .now) (pre .0) (refusal .given .0 .0) (refusal .given .0 .1 .0) filled) (words-zero (a .file .now) (a .words .now) (load .last .1 .0) (a .types .now) (a .demands .now) (pre .0) (refusal .given .0 .0) (refusal .given .0 .1 .0) filled)
+    refused-file (a .file .now) (a .number) (a .line) (a .types .now) (a .demands .now) (a .out .now) (refusal .given .0 .0) (refusal .given .0 .1 .0) (load .last .1 .0) (file-refused (a .file .now) (a .words .now) (load .last .1 .0) (a .types .now) (a .demands .now) (pre .0) (refusal .given .0 .0) (refusal .given .0 .1 .0) filled) (words-zero (a .file .now) (a .words .now) (load .last .1 .0) (a .types .now) (a .demands .now) (pre .0) (refusal .given .0 .0) (refusal .given .0 .1 .0) filled)
 
 same-length-2 : tie.Need-same-length-2
 same-length-2 c = search needs

@@ -106,10 +106,10 @@ returns-2 c =
     let a = (c .before .before .before .before .before .before .before .before .before .before .before .before .before .before .before .before .before .before .args) in
     let long = subst (LongIs (length (a .records .now)) (length (a .types .now)) (length (a .demands .now)) (length (a .out .now))) (not-false (are-long .result) ((c .before .before .before .before .before .before .before .before .before .before .before .before .if1) .left)) (are-long .ensures) in
     let r = (c .before .before .before .before .before .before .before .lines-exact) in
-    let words-long = r .kept .1 .1 .0 ∙ length-take-le 16384 (a .records .now) (long .records-long) in
-    let types-long = r .kept .1 .1 .1 .0 ∙ length-take-le 8192 (a .types .now) (long .types-long) in
-    let places-long = r .kept .1 .1 .1 .1 .0 ∙ length-take-le 256 (a .demands .now) (long .places-long) in
-    ((λ short. absurd (short long)), (λ h. answered-from (a .records .now) (a .types .now) (a .demands .now) (r .last .1 .1 .0) (r .last .1 .1 .1 .0) (r .last .1 .1 .1 .1 .0) words-long types-long places-long (a .out .now) (r .last .1 .1 .1 .1 .1 .0) (long .bytes-long) (r .kept .1 .1 .1 .1 .1 .0 ∙ length-take-le 4160 (a .out .now) (long .bytes-long)) (a .file .now) (a .from) (r .result) (r .ensures)))
+    let words-long = r .kept .1 .1 .1 .0 ∙ length-take-le 16384 (a .records .now) (long .records-long) in
+    let types-long = r .kept .1 .1 .1 .1 .0 ∙ length-take-le 8192 (a .types .now) (long .types-long) in
+    let places-long = r .kept .1 .1 .1 .1 .1 .0 ∙ length-take-le 256 (a .demands .now) (long .places-long) in
+    ((λ short. absurd (short long)), (λ h. answered-from (a .records .now) (a .types .now) (a .demands .now) (r .last .1 .1 .1 .0) (r .last .1 .1 .1 .1 .0) (r .last .1 .1 .1 .1 .1 .0) words-long types-long places-long (a .out .now) (r .last .1 .1 .1 .1 .1 .1 .0) (long .bytes-long) (r .kept .1 .1 .1 .1 .1 .1 .0 ∙ length-take-le 4160 (a .out .now) (long .bytes-long)) (a .file .now) (a .from) (a .line) (r .result) (r .ensures)))
 
 pub answer-from-spec : {M : Type 1} → statement M
 answer-from-spec =

@@ -1,9 +1,9 @@
 -- `answers::answer_typed` meets its contract: a refused or unwritten type leaves zeros. Assumes nothing.
 use mathlib.Core.Path.{refl, subst, _∙_}
-use Rattle.records.specs.Meaning.{question-of}
-use Rattle.resolution.specs.Answer.{type-text, text-verdict, question-lead}
+use Rattle.type_resolution.specs.Asking.{asked-of}
+use Rattle.resolution.specs.Answer.{type-text, text-verdict, asked-lead}
 use Rattle.type_table.specs.Layout.{table-of}
-use Rattle.answers.specs.Steps.{AskedIs}
+use Rattle.answers.specs.Steps.{TriedIs}
 use Rattle.answers.proofs.Asking.{types-zero}
 use borrow.Author.Needs.{needs}
 use Rattle.answers.proofs.answer_typed.Statement.{statement}
@@ -37,9 +37,9 @@ returns : tie.Need-returns
 returns c =
     let write-typed = c .before .before .before .before .before .write-typed in
     let a = (c .before .before .before .before .before .before .before .before .before .before .before .args) in
-    let lead = question-lead (question-of (a .question)) in
+    let lead = asked-lead (asked-of (a .asked)) in
     let v = text-verdict (type-text (table-of (a .file .now) (a .types .now)) (a .t)) in
-    record { is = subst (AskedIs lead v (a .out .now) (write-typed .last .1 .1 .1 .1 .0)) ((c .before .n) .given .1) (write-typed .ensures); types-are = refl }
+    record { is = subst (TriedIs lead v (a .out .now) (write-typed .last .1 .1 .1 .1 .0)) ((c .before .n) .given .1) (write-typed .ensures); types-are = refl }
 
 same-length-3 : tie.Need-same-length-3
 same-length-3 c = search needs
@@ -49,11 +49,12 @@ same-length-4 c = search needs
 
 returns-2 : tie.Need-returns-2
 returns-2 c =
+    let start = c .before .before .before .before .before .before .before .before .before .before .before .before .before .before .before in
     let write-typed = c .before .before .before .before .before .before .before .before .before .write-typed in
-    let a = (c .before .before .before .before .before .before .before .before .before .before .before .before .before .before .before .args) in
-    let lead = question-lead (question-of (a .question)) in
+    let a = start .args in
+    let lead = asked-lead (asked-of (a .asked)) in
     let v = text-verdict (type-text (table-of (a .file .now) (a .types .now)) (a .t)) in
-    record { is = subst (AskedIs lead v (a .out .now) (write-typed .last .1 .1 .1 .1 .0)) ((c .before .before .before .before .before .number) .given .1) (write-typed .ensures); types-are = (c .before .before .clear) .ensures ∙ types-zero (a .types .now) ((c .before .before .before .before .before .before .before .before .before .before .before .before .before .before .before .pre) .1 .1) }
+    record { is = subst (TriedIs lead v (a .out .now) (write-typed .last .1 .1 .1 .1 .0)) ((c .before .before .before .before .before .number) .given .1) (write-typed .ensures); types-are = (c .before .before .clear) .ensures ∙ types-zero (a .types .now) (start .pre .1 .1) }
 
 same-length-5 : tie.Need-same-length-5
 same-length-5 c = search needs
@@ -63,11 +64,12 @@ same-length-6 c = search needs
 
 returns-3 : tie.Need-returns-3
 returns-3 c =
+    let start = c .before .before .before .before .before .before .before .before .before .before .before .before .before .before in
     let write-typed = c .before .before .before .before .before .before .before .before .write-typed in
-    let a = (c .before .before .before .before .before .before .before .before .before .before .before .before .before .before .args) in
-    let lead = question-lead (question-of (a .question)) in
+    let a = start .args in
+    let lead = asked-lead (asked-of (a .asked)) in
     let v = text-verdict (type-text (table-of (a .file .now) (a .types .now)) (a .t)) in
-    record { is = subst (AskedIs lead v (a .out .now) (write-typed .last .1 .1 .1 .1 .0)) ((c .before .before .before .before .enum-told) .given .1) (write-typed .ensures); types-are = (c .before .before .clear2) .ensures ∙ types-zero (a .types .now) ((c .before .before .before .before .before .before .before .before .before .before .before .before .before .before .pre) .1 .1) }
+    record { is = subst (TriedIs lead v (a .out .now) (write-typed .last .1 .1 .1 .1 .0)) ((c .before .before .before .before .enum-told) .given .1) (write-typed .ensures); types-are = (c .before .before .clear2) .ensures ∙ types-zero (a .types .now) (start .pre .1 .1) }
 
 pub answer-typed-spec : {M : Type 1} → statement M
 answer-typed-spec =

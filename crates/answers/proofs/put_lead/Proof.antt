@@ -1,14 +1,14 @@
--- `answers::put_lead` meets its contract: by the kind of the question. Assumes nothing.
+-- `answers::put_lead` meets its contract: by the kind of what is asked. Assumes nothing.
 use mathlib.Core.Path.{sym, subst}
-use Rattle.records.specs.Meaning.{question-of}
-use Rattle.resolution.specs.Answer.{question-lead}
+use Rattle.type_resolution.specs.Asking.{asked-of}
+use Rattle.resolution.specs.Answer.{asked-lead, lead-of}
 use Rattle.answers.specs.Steps.{LeadPut}
 use borrow.Author.Needs.{needs}
 use Rattle.answers.proofs.put_lead.Statement.{statement}
 use Rattle.answers.proofs.put_lead.Tie as tie
 
-enum-known-question : tie.Need-enum-known-question
-enum-known-question c = search needs
+enum-known-asked : tie.Need-enum-known-asked
+enum-known-asked c = search needs
 
 slice-aggregate-put-fields : tie.Need-slice-aggregate-put-fields
 slice-aggregate-put-fields c = search needs
@@ -16,8 +16,8 @@ slice-aggregate-put-fields c = search needs
 put-fields-requires : tie.Need-put-fields-requires
 put-fields-requires c κs = search needs
 
-enum-known-question-2 : tie.Need-enum-known-question-2
-enum-known-question-2 c = search needs
+enum-known-asked-2 : tie.Need-enum-known-asked-2
+enum-known-asked-2 c = search needs
 
 slice-aggregate-put-fields-2 : tie.Need-slice-aggregate-put-fields-2
 slice-aggregate-put-fields-2 c = search needs
@@ -25,8 +25,8 @@ slice-aggregate-put-fields-2 c = search needs
 put-fields-requires-2 : tie.Need-put-fields-requires-2
 put-fields-requires-2 c κs = search needs
 
-enum-known-question-3 : tie.Need-enum-known-question-3
-enum-known-question-3 c = search needs
+enum-known-asked-3 : tie.Need-enum-known-asked-3
+enum-known-asked-3 c = search needs
 
 slice-aggregate-put-fields-3 : tie.Need-slice-aggregate-put-fields-3
 slice-aggregate-put-fields-3 c = search needs
@@ -38,40 +38,40 @@ same-length : tie.Need-same-length
 same-length c = search needs
 
 returns : tie.Need-returns
-unfolding question-lead
+unfolding asked-lead lead-of
 returns c =
     let put-fields = c .before .before .put-fields in
-    subst (λ q. LeadPut (question-lead (question-of q)) (((c .before .before .before .before .before .before .before .before .before .args)) .out .now) (put-fields .last .1 .1 .1 .0) (put-fields .result)) (sym (((c .before .before .before .before .before .before .question)) .given .1)) (put-fields .ensures)
+    subst (λ q. LeadPut (asked-lead (asked-of q)) (((c .before .before .before .before .before .before .before .before .before .args)) .out .now) (put-fields .last .1 .1 .1 .0) (put-fields .result)) (sym (((c .before .before .before .before .before .before .asked)) .given .1)) (put-fields .ensures)
 
 same-length-2 : tie.Need-same-length-2
 same-length-2 c = search needs
 
 returns-2 : tie.Need-returns-2
-unfolding question-lead
+unfolding asked-lead lead-of
 returns-2 c =
     let put-fields2 = c .before .before .put-fields2 in
-    subst (λ q. LeadPut (question-lead (question-of q)) (((c .before .before .before .before .before .before .before .before .before .args)) .out .now) (put-fields2 .last .1 .1 .1 .0) (put-fields2 .result)) (sym (((c .before .before .before .before .before .before .question2)) .given .1)) (put-fields2 .ensures)
+    subst (λ q. LeadPut (asked-lead (asked-of q)) (((c .before .before .before .before .before .before .before .before .before .args)) .out .now) (put-fields2 .last .1 .1 .1 .0) (put-fields2 .result)) (sym (((c .before .before .before .before .before .before .asked2)) .given .1)) (put-fields2 .ensures)
 
 same-length-3 : tie.Need-same-length-3
 same-length-3 c = search needs
 
 returns-3 : tie.Need-returns-3
-unfolding question-lead
+unfolding asked-lead lead-of
 returns-3 c =
     let put-fields3 = c .before .before .put-fields3 in
-    subst (λ q. LeadPut (question-lead (question-of q)) (((c .before .before .before .before .before .before .before .before .before .args)) .out .now) (put-fields3 .last .1 .1 .1 .0) (put-fields3 .result)) (sym (((c .before .before .before .before .before .before .question3)) .given .1)) (put-fields3 .ensures)
+    subst (λ q. LeadPut (asked-lead (asked-of q)) (((c .before .before .before .before .before .before .before .before .before .args)) .out .now) (put-fields3 .last .1 .1 .1 .0) (put-fields3 .result)) (sym (((c .before .before .before .before .before .before .asked3)) .given .1)) (put-fields3 .ensures)
 
 pub put-lead-spec : {M : Type 1} → statement M
 put-lead-spec =
     tie.close
     (tie.spec
-    enum-known-question
+    enum-known-asked
     slice-aggregate-put-fields
     put-fields-requires
-    enum-known-question-2
+    enum-known-asked-2
     slice-aggregate-put-fields-2
     put-fields-requires-2
-    enum-known-question-3
+    enum-known-asked-3
     slice-aggregate-put-fields-3
     put-fields-requires-3
     same-length

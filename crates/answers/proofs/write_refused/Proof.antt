@@ -7,8 +7,8 @@ use native.Mathlib.Omega.{arith}
 use lib.ListN.{length, take, length-take}
 use lib.Seq.{length-take-le}
 use Rattle.model.specs.Common.{bytes}
-use Rattle.records.specs.Meaning.{question-of}
-use Rattle.resolution.specs.Answer.{decimal, question-lead}
+use Rattle.type_resolution.specs.Asking.{asked-of}
+use Rattle.resolution.specs.Answer.{decimal, asked-lead}
 use Rattle.type_text.specs.Text.{Wrote}
 use Rattle.type_text.proofs.Writing.{wrote-then, wrote-take}
 use Rattle.answers.specs.Steps.{LinePut}
@@ -57,7 +57,7 @@ put-requires-2 c κs =
 returns : tie.Need-returns
 returns c =
     let a = (c .before .before .before .before .before .before .before .before .before .before .before .before .before .before .before .before .args) in
-    let lead = question-lead (question-of (a .question)) in
+    let lead = asked-lead (asked-of (a .asked)) in
     let one = (c .before .before .before .before .before .before .before .before .before .before .before .before .before .put-lead) in
     let two = (c .before .before .before .before .before .before .before .before .before .put) in
     let three = (c .before .before .before .before .before .before .put-decimal) in
@@ -97,7 +97,7 @@ returns-2 : tie.Need-returns-2
 returns-2 c =
     let put3 = c .before .before .put3 in
     let a = (c .before .before .before .before .before .before .before .before .before .before .before .before .before .before .before .before .before .before .before .before .before .args) in
-    let lead = question-lead (question-of (a .question)) in
+    let lead = asked-lead (asked-of (a .asked)) in
     let one = (c .before .before .before .before .before .before .before .before .before .before .before .before .before .before .before .before .before .before .put-lead) in
     let two = (c .before .before .before .before .before .before .before .before .before .before .before .before .before .before .put) in
     let three = (c .before .before .before .before .before .before .before .before .before .before .before .put-decimal) in

@@ -8,13 +8,13 @@ use borrow.Rule.Slice.PartMut.{put-same, putMid}
 use lib.ListN.{length, take, drop, length-append, length-take, length-drop}
 use lib.Seq.{length-take-le}
 use Rattle.model.specs.Common.{bytes}
-use Rattle.records.specs.Meaning.{question-of}
-use Rattle.resolution.specs.Answer.{type-text, text-verdict, question-lead}
+use Rattle.type_resolution.specs.Asking.{asked-of}
+use Rattle.resolution.specs.Answer.{type-text, text-verdict, asked-lead}
 use Rattle.type_table.specs.Layout.{table-of}
 use Rattle.type_text.specs.Text.{Wrote}
 use Rattle.type_text.proofs.Writing.{wrote-then, wrote-take}
 use Rattle.type_text.proofs.Laws.{written, too-long, no-room, verdict-typed, verdict-refused}
-use Rattle.answers.specs.Steps.{LinePut, line-with}
+use Rattle.answers.specs.Steps.{LinePut, Answering, line-with}
 use Rattle.answers.proofs.Lines.{between, typed-line, typed-length, line-longer}
 use borrow.Author.Needs.{needs}
 use Rattle.answers.proofs.write_typed.Statement.{statement}
@@ -38,13 +38,13 @@ put-requires c κs = search needs
 returns : tie.Need-returns
 returns c =
     let a = (c .before .before .before .before .before .before .before .before .before .before .before .args) in
-    let lead = question-lead (question-of (a .question)) in
+    let lead = asked-lead (asked-of (a .asked)) in
     let one = (c .before .before .before .before .before .before .put-lead) in
     let two = (c .before .before .put) in
     let text = type-text (table-of (a .file .now) (a .types .now)) (a .t) in
     let all = wrote-then lead (bytes "type\t") _ _ _ _ _ _ zero-le (one .ensures .wrote) (two .ensures) in
     record {
-      short = omega (arith, line-longer lead (text-verdict text), all .next, length-append lead (bytes "type\t"), (c .if1) .taken);
+      short = omega (arith, line-longer lead text, all .next, length-append lead (bytes "type\t"), (c .if1) .taken);
       same = refl;
     }
 
@@ -115,7 +115,7 @@ same-length-2 c = search needs
 returns-3 : tie.Need-returns-3
 returns-3 c =
     let a = (c .before .before .before .before .before .before .before .before .before .before .before .before .before .before .before .before .before .args) in
-    let lead = question-lead (question-of (a .question)) in
+    let lead = asked-lead (asked-of (a .asked)) in
     let one = (c .before .before .before .before .before .before .before .before .before .before .before .before .put-lead) in
     let two = (c .before .before .before .before .before .before .before .before .put) in
     let text = type-text (table-of (a .file .now) (a .types .now)) (a .t) in
@@ -136,7 +136,7 @@ returns-4 c =
     let put3 = c .before .before .put3 in
     let put2 = c .before .before .before .before .before .before .before .put2 in
     let a = (c .before .before .before .before .before .before .before .before .before .before .before .before .before .before .before .before .before .before .before .before .before .before .before .before .before .before .before .before .args) in
-    let lead = question-lead (question-of (a .question)) in
+    let lead = asked-lead (asked-of (a .asked)) in
     let one = (c .before .before .before .before .before .before .before .before .before .before .before .before .before .before .before .before .before .before .before .before .before .before .before .put-lead) in
     let two = (c .before .before .before .before .before .before .before .before .before .before .before .before .before .before .before .before .before .before .before .put) in
     let text = type-text (table-of (a .file .now) (a .types .now)) (a .t) in
@@ -146,8 +146,7 @@ returns-4 c =
     let at : length (lead ++ bytes "type\t") ≡ two .result = sym (all .next ∙ zero-add (length (lead ++ bytes "type\t"))) in
     let front : take (two .result) (two .last .0) ≡ lead ++ bytes "type\t" = wrote-take (lead ++ bytes "type\t") _ _ _ _ (omega (arith, at, one .kept .1 .0, one .ensures .few, two .ensures .next)) all in
     record {
-      text = text;
-      is = typed;
+      answering = subst Answering (sym typed) tt;
       put =
           subst (λ l. LinePut l (a .out .now) (put3 .last .0) (put3 .result)) (typed-line lead text ∙ ap (line-with lead) (sym typed))
           (between (lead ++ bytes "type\t") text (a .out .now) (write-text .last .1 .1 .1 .0) (put2 .last .0) (two .result) (n .given .0 .0) (put2 .result) at ((c .before .before .before .before .before .before .before .before .before .before .before .before .before .before .before .before .before .if1) .left) stands

@@ -1,19 +1,19 @@
--- `resolve::main` meets its contract: the buffers stay as long as they are, and each part begins at a later question. Assumes nothing.
-use Prim.Native.Nat.{_-_}
+-- `resolve::main` meets its contract: the buffers stay as long as they are, and each part leaves fewer lines. Assumes nothing.
 use mathlib.Core.Path.{_≡_, sym, subst, _∙_}
 use native.Mathlib.Omega.{arith}
 use borrow.Author.Needs.{needs}
 use lib.ListN.{length, take}
 use lib.Seq.{length-take-le}
+use Rattle.answers.specs.Whole.{lines-left}
 use Rattle.resolve.specs.Parts.{PartIs}
 use Rattle.resolve.proofs.main.Statement.{statement}
 use Rattle.resolve.proofs.main.Tie as tie
 
 abbrev Inv-loop : tie.InvT-loop
-Inv-loop space n records₀ types₀ demands₀ out₀ from₀ records types demands out from = (16384 ≡ length records) × (8192 ≡ length types) × (256 ≡ length demands) × (4160 ≡ length out)
+Inv-loop space n records₀ types₀ demands₀ out₀ from₀ line₀ records types demands out from line = (16384 ≡ length records) × (8192 ≡ length types) × (256 ≡ length demands) × (4160 ≡ length out)
 
 abbrev μ-loop : tie.MeasureT-loop
-μ-loop space n records₀ types₀ demands₀ out₀ from₀ records types demands out from = 4294967296 - from
+μ-loop space n records₀ types₀ demands₀ out₀ from₀ line₀ records types demands out from line = lines-left (take n space) from line
 
 input-requires : tie.Need-input-requires Inv-loop μ-loop
 input-requires c κs = search needs
@@ -67,47 +67,52 @@ enum-known-next c = search needs
 
 array-share-prefix-out : tie.Need-array-share-prefix-out Inv-loop μ-loop
 array-share-prefix-out c =
+    let loop = c .before .before .before .before .before .before .before .before .before .before .before .before .before .loop in
     let read-full = c .before .before .before .before .before .before .before .before .before .before .before .before .before .before .before .before .before .before .before .read-full in
     let next-part = c .before .before .before .before .before .before .before .next-part in
-    (subst (PartIs (take (read-full .result) (read-full .last .1 .0)) ((c .before .before .before .before .before .before .before .before .before .before .before .before .before .loop) .from) (next-part .last .1 .1 .1 .1 .1 .0)) ((c .before .next) .given .1) (next-part .ensures)) .fits
+    (subst (PartIs (take (read-full .result) (read-full .last .1 .0)) (loop .from) (loop .line) (next-part .last .1 .1 .1 .1 .1 .1 .0)) ((c .before .next) .given .1) (next-part .ensures)) .fits
 
 slice-aggregate-write-all : tie.Need-slice-aggregate-write-all Inv-loop μ-loop
 slice-aggregate-write-all c =
+    let loop = c .before .before .before .before .before .before .before .before .before .before .before .before .before .before .loop in
     let next = c .before .before .next in
     let next-part = c .before .before .before .before .before .before .before .before .next-part in
     let read-full = c .before .before .before .before .before .before .before .before .before .before .before .before .before .before .before .before .before .before .before .before .read-full in
-    sym (length-take-le (next .given .0 .1 .0) (next-part .last .1 .1 .1 .1 .1 .0) ((subst (PartIs (take (read-full .result) (read-full .last .1 .0)) ((c .before .before .before .before .before .before .before .before .before .before .before .before .before .before .loop) .from) (next-part .last .1 .1 .1 .1 .1 .0)) (next .given .1) (next-part .ensures)) .fits))
+    sym (length-take-le (next .given .0 .1 .1 .0) (next-part .last .1 .1 .1 .1 .1 .1 .0) ((subst (PartIs (take (read-full .result) (read-full .last .1 .0)) (loop .from) (loop .line) (next-part .last .1 .1 .1 .1 .1 .1 .0)) (next .given .1) (next-part .ensures)) .fits))
 
 write-all-requires : tie.Need-write-all-requires Inv-loop μ-loop
 write-all-requires c κs = search needs
 
 loop-less : tie.Need-loop-less Inv-loop μ-loop
 loop-less c =
+    let loop = c .before .before .before .before .before .before .before .before .before .before .before .before .before .before .before .loop in
     let read-full = c .before .before .before .before .before .before .before .before .before .before .before .before .before .before .before .before .before .before .before .before .before .read-full in
     let next-part = c .before .before .before .before .before .before .before .before .before .next-part in
-    omega (arith, (subst (PartIs (take (read-full .result) (read-full .last .1 .0)) ((c .before .before .before .before .before .before .before .before .before .before .before .before .before .before .before .loop) .from) (next-part .last .1 .1 .1 .1 .1 .0)) ((c .before .before .before .next) .given .1) (next-part .ensures)) .later)
+    (subst (PartIs (take (read-full .result) (read-full .last .1 .0)) (loop .from) (loop .line) (next-part .last .1 .1 .1 .1 .1 .1 .0)) ((c .before .before .before .next) .given .1) (next-part .ensures)) .fewer
 
 loop-again : tie.Need-loop-again Inv-loop μ-loop
 loop-again c =
     let next-part = c .before .before .before .before .before .before .before .before .before .next-part in
     let i = (c .before .before .before .before .before .before .before .before .before .before .before .before .before .before .before .loop) .inv in
-    (i .0 ∙ sym (next-part .kept .1 .1 .0), i .1 ∙ sym (next-part .kept .1 .1 .1 .0), i .2 ∙ sym (next-part .kept .1 .1 .1 .1 .0), i .3 ∙ sym (next-part .kept .1 .1 .1 .1 .1 .0))
+    (i .0 ∙ sym (next-part .kept .1 .1 .1 .0), i .1 ∙ sym (next-part .kept .1 .1 .1 .1 .0), i .2 ∙ sym (next-part .kept .1 .1 .1 .1 .1 .0), i .3 ∙ sym (next-part .kept .1 .1 .1 .1 .1 .1 .0))
 
 enum-known-k : tie.Need-enum-known-k Inv-loop μ-loop
 enum-known-k c = search needs
 
 array-share-prefix-out-2 : tie.Need-array-share-prefix-out-2 Inv-loop μ-loop
 array-share-prefix-out-2 c =
+    let loop = c .before .before .before .before .before .before .before .before .before .before .before .before .before .loop in
     let read-full = c .before .before .before .before .before .before .before .before .before .before .before .before .before .before .before .before .before .before .before .read-full in
     let next-part = c .before .before .before .before .before .before .before .next-part in
-    (subst (PartIs (take (read-full .result) (read-full .last .1 .0)) ((c .before .before .before .before .before .before .before .before .before .before .before .before .before .loop) .from) (next-part .last .1 .1 .1 .1 .1 .0)) ((c .before .k) .given .1) (next-part .ensures)) .fits
+    (subst (PartIs (take (read-full .result) (read-full .last .1 .0)) (loop .from) (loop .line) (next-part .last .1 .1 .1 .1 .1 .1 .0)) ((c .before .k) .given .1) (next-part .ensures)) .fits
 
 slice-aggregate-write-all-2 : tie.Need-slice-aggregate-write-all-2 Inv-loop μ-loop
 slice-aggregate-write-all-2 c =
+    let loop = c .before .before .before .before .before .before .before .before .before .before .before .before .before .before .loop in
     let k = c .before .before .k in
     let next-part = c .before .before .before .before .before .before .before .before .next-part in
     let read-full = c .before .before .before .before .before .before .before .before .before .before .before .before .before .before .before .before .before .before .before .before .read-full in
-    sym (length-take-le (k .given .0 .0) (next-part .last .1 .1 .1 .1 .1 .0) ((subst (PartIs (take (read-full .result) (read-full .last .1 .0)) ((c .before .before .before .before .before .before .before .before .before .before .before .before .before .before .loop) .from) (next-part .last .1 .1 .1 .1 .1 .0)) (k .given .1) (next-part .ensures)) .fits))
+    sym (length-take-le (k .given .0 .0) (next-part .last .1 .1 .1 .1 .1 .1 .0) ((subst (PartIs (take (read-full .result) (read-full .last .1 .0)) (loop .from) (loop .line) (next-part .last .1 .1 .1 .1 .1 .1 .0)) (k .given .1) (next-part .ensures)) .fits))
 
 write-all-requires-2 : tie.Need-write-all-requires-2 Inv-loop μ-loop
 write-all-requires-2 c κs = search needs

@@ -36,12 +36,13 @@ same-length-4 c = search needs
 
 returns : tie.Need-returns
 returns c =
+    let start = c .before .before .before .before .before .before .before .before .before .before .before .before .before .before .before .before .before .before .before in
     let next = c .before .next in
-    let a = (c .before .before .before .before .before .before .before .before .before .before .before .before .before .before .before .before .before .before .before .args) in
+    let a = start .args in
     let all = (c .before .before .before .before .before .before .before .before .before .before .answer-from) in
     let before = buffers (a .records .now) (a .types .now) (a .demands .now) (a .out .now) in
-    let after = buffers (all .last .1 .1 .0) (all .last .1 .1 .1 .0) (all .last .1 .1 .1 .1 .0) (all .last .1 .1 .1 .1 .1 .0) in
-    more-part (a .file .now) (a .from) before after (next .given .0 .0) (next .given .0 .1 .0) (subst (AnsweredFrom (a .file .now) (a .from) before after) (next .given .1) (all .ensures .1 ((c .before .before .before .before .before .before .before .before .before .before .before .before .before .before .before .before .before .before .before .pre))))
+    let after = buffers (all .last .1 .1 .1 .0) (all .last .1 .1 .1 .1 .0) (all .last .1 .1 .1 .1 .1 .0) (all .last .1 .1 .1 .1 .1 .1 .0) in
+    more-part (a .file .now) (a .from) (a .line) before after (next .given .0 .0) (next .given .0 .1 .0) (next .given .0 .1 .1 .0) (subst (AnsweredFrom (a .file .now) (a .from) (a .line) before after) (next .given .1) (all .ensures .1 (start .pre)))
 
 same-length-5 : tie.Need-same-length-5
 same-length-5 c = search needs
@@ -57,12 +58,13 @@ same-length-8 c = search needs
 
 returns-2 : tie.Need-returns-2
 returns-2 c =
+    let start = c .before .before .before .before .before .before .before .before .before .before .before .before .before .before .before .before .before .before .before in
     let n = c .before .n in
-    let a = (c .before .before .before .before .before .before .before .before .before .before .before .before .before .before .before .before .before .before .before .args) in
+    let a = start .args in
     let all = (c .before .before .before .before .before .before .before .before .before .before .answer-from) in
     let before = buffers (a .records .now) (a .types .now) (a .demands .now) (a .out .now) in
-    let after = buffers (all .last .1 .1 .0) (all .last .1 .1 .1 .0) (all .last .1 .1 .1 .1 .0) (all .last .1 .1 .1 .1 .1 .0) in
-    end-part (a .file .now) (a .from) before after (n .given .0 .0) (subst (AnsweredFrom (a .file .now) (a .from) before after) (n .given .1) (all .ensures .1 ((c .before .before .before .before .before .before .before .before .before .before .before .before .before .before .before .before .before .before .before .pre))))
+    let after = buffers (all .last .1 .1 .1 .0) (all .last .1 .1 .1 .1 .0) (all .last .1 .1 .1 .1 .1 .0) (all .last .1 .1 .1 .1 .1 .1 .0) in
+    end-part (a .file .now) (a .from) (a .line) before after (n .given .0 .0) (subst (AnsweredFrom (a .file .now) (a .from) (a .line) before after) (n .given .1) (all .ensures .1 (start .pre)))
 
 same-length-9 : tie.Need-same-length-9
 same-length-9 c = search needs
@@ -78,14 +80,15 @@ same-length-12 c = search needs
 
 returns-3 : tie.Need-returns-3
 returns-3 c =
+    let start = c .before .before .before .before .before .before .before .before .before .before .before .before .before .before .before .before .before .before .before .before .before .before .before in
     let number = c .before .before .before .before .before .number in
-    let pre = c .before .before .before .before .before .before .before .before .before .before .before .before .before .before .before .before .before .before .before .before .before .before .before .pre in
+    let pre = start .pre in
     let put-refused = c .before .before .put-refused in
-    let a = (c .before .before .before .before .before .before .before .before .before .before .before .before .before .before .before .before .before .before .before .before .before .before .before .args) in
+    let a = start .args in
     let all = (c .before .before .before .before .before .before .before .before .before .before .before .before .before .before .answer-from) in
     let before = buffers (a .records .now) (a .types .now) (a .demands .now) (a .out .now) in
-    let after = buffers (all .last .1 .1 .0) (all .last .1 .1 .1 .0) (all .last .1 .1 .1 .1 .0) (all .last .1 .1 .1 .1 .1 .0) in
-    refused-part (a .file .now) (a .from) before after (number .given .0 .0) (number .given .0 .1 .0) (subst (AnsweredFrom (a .file .now) (a .from) before after) (number .given .1) (all .ensures .1 pre)) (put-refused .last .1 .1 .0) (put-refused .result) (omega (arith, all .kept .1 .1 .1 .1 .1 .0, pre .bytes-long)) (put-refused .kept .1 .1 .0) (put-refused .ensures)
+    let after = buffers (all .last .1 .1 .1 .0) (all .last .1 .1 .1 .1 .0) (all .last .1 .1 .1 .1 .1 .0) (all .last .1 .1 .1 .1 .1 .1 .0) in
+    refused-part (a .file .now) (a .from) (a .line) before after (number .given .0 .0) (number .given .0 .1 .0) (subst (AnsweredFrom (a .file .now) (a .from) (a .line) before after) (number .given .1) (all .ensures .1 pre)) (put-refused .last .1 .1 .0) (put-refused .result) (omega (arith, all .kept .1 .1 .1 .1 .1 .1 .0, pre .bytes-long)) (put-refused .kept .1 .1 .0) (put-refused .ensures)
 
 pub next-part-spec : {M : Type 1} → statement M
 next-part-spec =

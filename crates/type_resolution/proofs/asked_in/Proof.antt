@@ -1,6 +1,6 @@
 -- `type_resolution::asked_in` meets its contract. Assumes nothing.
 use Rattle.type_resolution.proofs.Running.{is-typed, is-refused, then-on, then-stop}
-use Rattle.type_resolution.proofs.Finding.{question-found, question-absent}
+use Rattle.type_resolution.proofs.Finding.{in-context-found, in-context-absent}
 use mathlib.Core.Path.{refl}
 use borrow.Author.Needs.{needs}
 use Rattle.type_resolution.proofs.asked_in.Statement.{statement}
@@ -28,7 +28,7 @@ expr-type-requires : tie.Need-expr-type-requires
 expr-type-requires c κs = search needs
 
 returns : tie.Need-returns
-returns c = question-absent (c .before .before .before .before .before .before .pre) _ _ _ ((c .before .before .expression-in) .ensures) ((c .enum-told) .given .1)
+returns c = in-context-absent (c .before .before .before .before .before .before .pre) _ _ _ ((c .before .before .expression-in) .ensures) ((c .enum-told) .given .1)
 
 same-length : tie.Need-same-length
 same-length c = search needs
@@ -41,7 +41,7 @@ returns-2 c =
     let expression-in = c .before .before .before .before .before .before .before .before .before .before .before .before .before .expression-in in
     let info = c .before .before .before .before .before .before .before .before .before .before .before .info in
     let ast-type = c .before .before .before .before .before .before .ast-type in
-    question-found _ _ _ (expression-in .ensures) (info .given .1) (then-stop (ast-type .ensures) _ (is-refused ((c .before .n) .given .1)) (is-refused refl))
+    in-context-found _ _ _ (expression-in .ensures) (info .given .1) (then-stop (ast-type .ensures) _ (is-refused ((c .before .n) .given .1)) (is-refused refl))
 
 same-length-3 : tie.Need-same-length-3
 same-length-3 c = search needs
@@ -56,7 +56,7 @@ returns-3 c =
     let ast-type = c .before .before .before .before .before .before .before .before .before .before .before .before .ast-type in
     let context = c .before .before .before .before .before .before .before .context in
     let expr-type = c .before .before .before .expr-type in
-    question-found _ _ _ (expression-in .ensures) (info .given .1) (then-on (ast-type .ensures) _ (is-typed (context .given .1)) (expr-type .ensures))
+    in-context-found _ _ _ (expression-in .ensures) (info .given .1) (then-on (ast-type .ensures) _ (is-typed (context .given .1)) (expr-type .ensures))
 
 pub asked-in-spec : {M : Type 1} → statement M
 asked-in-spec =
