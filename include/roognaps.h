@@ -101,23 +101,29 @@ static_assert(sizeof(roognaps_load_result) == sizeof(uint64_t) &&
                   sizeof(roognaps_answer_from_result) == sizeof(uint64_t),
               "each result is one number of 64 bits");
 
-/* No other kinds are given than these. */
+/*
+ * Kinds. The library gives none of ROOGNAPS_.._OTHER; it is there so that any 16 bits are a value of the
+ * enum, and a number of another library is seen to be none of the other kinds.
+ */
 enum roognaps_load_result_kind {
     ROOGNAPS_LOAD_ACCEPTED = 0,
-    ROOGNAPS_LOAD_REFUSED = 3
+    ROOGNAPS_LOAD_REFUSED = 3,
+    ROOGNAPS_LOAD_OTHER = 0xffff
 };
 
 enum roognaps_answer_result_kind {
     ROOGNAPS_ANSWER_LINE = 0,
     ROOGNAPS_ANSWER_REFUSED = 1,
     ROOGNAPS_ANSWER_PAST_LAST = 2,
-    ROOGNAPS_ANSWER_FILE_REFUSED = 3
+    ROOGNAPS_ANSWER_FILE_REFUSED = 3,
+    ROOGNAPS_ANSWER_OTHER = 0xffff
 };
 
 enum roognaps_answer_from_result_kind {
     ROOGNAPS_ANSWER_FROM_END = 0,
     ROOGNAPS_ANSWER_FROM_MORE = 1,
-    ROOGNAPS_ANSWER_FROM_FILE_REFUSED = 3
+    ROOGNAPS_ANSWER_FROM_FILE_REFUSED = 3,
+    ROOGNAPS_ANSWER_FROM_OTHER = 0xffff
 };
 
 /*
@@ -254,7 +260,8 @@ static inline size_t roognaps_answer_from_bytes(roognaps_answer_from_result resu
     case ROOGNAPS_ANSWER_FROM_MORE:
         return rest & 0xffffu;
     case ROOGNAPS_ANSWER_FROM_FILE_REFUSED:
-        return 0;
+    case ROOGNAPS_ANSWER_FROM_OTHER:
+        break;
     }
     return 0;
 }

@@ -131,7 +131,7 @@ def versions():
 
 
 def header_in_cpp():
-    """The header is C++ too: a program that uses all of it, compiled as such."""
+    """The header is C++ too: a program that reads every result and names every refusal, compiled as such."""
     if not shutil.which("c++"):
         say("c++ isn't at hand; the header isn't tried in C++")
         return True
@@ -388,7 +388,7 @@ def with_originals(folder):
         say("`typetool self-check` failed")
         return False
     if not reachable:
-        say("the original sources aren't reachable; the crate's module `export` and the program of docs/USING.md are left out")
+        say("the original sources aren't reachable; the crate's module `export` and what docs/USING.md shows of its program, in Rust and in C, are left out")
         return True
     documents = documented("--features", "export")
     return documents and shown_index() and shown_types() and shown_rust() and shown_c(folder)
@@ -428,7 +428,7 @@ def shown_rust():
 
 def shown_call():
     """The call that docs/USING.md shows of the example in C stands in it, but for spaces."""
-    call = shown_below("The heart of it is a call in a loop that begins with line 0 of question 0:").split()
+    call = shown_below("What it does is a call in a loop that begins with line 0 of question 0:").split()
     with open(os.path.join(ROOT, "examples", "c", "answer.c"), encoding="ascii") as source:
         stands = len(call) > 0 and " ".join(call) in " ".join(source.read().split())
     if not stands:
@@ -447,6 +447,7 @@ def shown_c(folder):
         if made.returncode != 0:
             print(made.stdout)
             say(f"`{command}` failed")
+            return False
     done = [is_as_shown(f"`{command}`", run(["sh", "-c", command], cwd=ROOT).stdout, owed) for command, owed in running]
     return len(compiling) > 0 and len(done) > 0 and all(done)
 

@@ -84,6 +84,8 @@ static int answer_one(uint32_t question, uint32_t line)
     case ROOGNAPS_ANSWER_PAST_LAST:
         fprintf(stderr, "answer: question %" PRIu32 " has no line %" PRIu32 "\n", question, line);
         return NO_SUCH_LINE;
+    case ROOGNAPS_ANSWER_OTHER:
+        break;
     }
     fprintf(stderr, "answer: not the library of this header\n");
     return FAILED;

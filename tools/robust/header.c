@@ -57,6 +57,8 @@ static const char *load_name(enum roognaps_load_result_kind kind)
         return "ACCEPTED";
     case ROOGNAPS_LOAD_REFUSED:
         return "REFUSED";
+    case ROOGNAPS_LOAD_OTHER:
+        break;
     }
     return "-";
 }
@@ -72,6 +74,8 @@ static const char *answer_name(enum roognaps_answer_result_kind kind)
         return "PAST_LAST";
     case ROOGNAPS_ANSWER_FILE_REFUSED:
         return "FILE_REFUSED";
+    case ROOGNAPS_ANSWER_OTHER:
+        break;
     }
     return "-";
 }
@@ -85,6 +89,8 @@ static const char *answer_from_name(enum roognaps_answer_from_result_kind kind)
         return "MORE";
     case ROOGNAPS_ANSWER_FROM_FILE_REFUSED:
         return "FILE_REFUSED";
+    case ROOGNAPS_ANSWER_FROM_OTHER:
+        break;
     }
     return "-";
 }

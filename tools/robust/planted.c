@@ -59,6 +59,8 @@ static void spoil_past_last(roognaps_answer_result *given, uint32_t *records, ui
 {
     if (planted("past_the_last_is_a_line"))
         given->bits = one_further;
+    if (planted("past_the_last_has_bytes"))
+        given->bits += one_further;
     if (planted("past_the_last_changes_a_record"))
         records[ROOGNAPS_RECORD_WORDS - 1] ^= 1;
     if (planted("past_the_last_leaves_a_type"))
@@ -88,6 +90,8 @@ roognaps_answer_result roognaps_answer(const uint8_t *file, size_t file_bytes, u
     case ROOGNAPS_ANSWER_FILE_REFUSED:
         if (planted("the_file_is_refused_a_line_further"))
             given.bits += one_further;
+        break;
+    case ROOGNAPS_ANSWER_OTHER:
         break;
     }
     return given;
@@ -125,6 +129,7 @@ roognaps_answer_from_result roognaps_answer_from(const uint8_t *file, size_t fil
             given.bits = roognaps_answer_from_bytes(given);
         break;
     case ROOGNAPS_ANSWER_FROM_END:
+    case ROOGNAPS_ANSWER_FROM_OTHER:
         break;
     case ROOGNAPS_ANSWER_FROM_FILE_REFUSED:
         if (planted("the_file_of_lines_is_refused_a_line_further"))

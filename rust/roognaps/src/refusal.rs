@@ -214,7 +214,7 @@ impl fmt::Display for Error {
     fn fmt(&self, f: &mut fmt::Formatter<'_>) -> fmt::Result {
         match self {
             Self::Refused(refusal) => write!(f, "{refusal}"),
-            Self::Untyped => f.write_str("the question's first line has no type"),
+            Self::Untyped => f.write_str("the question has no first line with a type"),
             Self::Library(fault) => write!(f, "{fault}"),
             Self::Thread(kind) => write!(f, "no thread with stack enough: {kind}"),
         }

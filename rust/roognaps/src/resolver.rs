@@ -100,7 +100,7 @@ impl Resolver {
     /// A line of the question of a number, by its own number, both from 0. None past the question's last
     /// line.
     ///
-    /// The error is the refusal of the file, 1 to 5, or of the line, 6 to 10; or 5 without a line of the
+    /// The error is the refusal of the file, 2 to 5, or of the line, 6 to 10; or 5 without a line of the
     /// file where the file has no question of this number.
     ///
     /// ```
@@ -123,10 +123,10 @@ impl Resolver {
     }
 
     /// The lines of a file's questions, in the order of its Q lines, some at a time. A refused line
-    /// (6 to 10) is among the others; a refused file (1 to 5) is an error, and the last thing that the
-    /// iterator gives.
+    /// (6 to 10) is among the others; a refused file (2 to 5) is an error. An error is the last thing that
+    /// the iterator gives.
     ///
-    /// Each part of some 4,000 bytes is a call of the library, which loads the file again. Outside
+    /// Each part, of at most 4,160 bytes, is a call of the library, which loads the file again. Outside
     /// [`on_large_stack`] each runs on a thread of its own.
     ///
     /// ```

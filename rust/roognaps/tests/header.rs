@@ -124,6 +124,30 @@ fn answer_from(bits: u64) -> Read {
     }
 }
 
+/// Numbers of kinds that there aren't: the crate reads none, the header no kind and 0.
+fn no_results() -> Vec<Read> {
+    let mut read = Vec::new();
+    for bits in [0x0002, 0x0004, 0x0100, 0xffff].map(|kind| (kind << 48) + 0x0004_0001_0007) {
+        assert!(LoadResult { bits }.read().is_err(), "{bits:#x}");
+        assert!(LineResult { bits }.read().is_err(), "{bits:#x}");
+        assert!(LinesResult { bits }.read().is_err(), "{bits:#x}");
+        let mut none = |function, said: &str| {
+            let said = said.to_string();
+            read.push(Read {
+                function,
+                bits,
+                said,
+            });
+        };
+        none("load", "- 0 0");
+        none("answer_from", "- 0 0 0 0 0");
+        if bits >> 48 != 2 {
+            none("answer", "- 0 0 0");
+        }
+    }
+    read
+}
+
 /// Results of every kind.
 fn results() -> Vec<Read> {
     let loads = [0, 0x0003_0001_0000_0000, 0x0003_0004_0001_0007];
@@ -149,7 +173,8 @@ fn results() -> Vec<Read> {
 
 #[test]
 fn header_and_crate_agree() {
-    let results = results();
+    let mut results = results();
+    results.extend(no_results());
     let mut owed = format!(
         "lengths {RECORD_WORDS} {TYPE_WORDS} {PLACES} {ANSWER_BYTES} {QUESTIONS}\n{}",
         refusals()
