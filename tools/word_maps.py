@@ -23,7 +23,7 @@ PAIR = re.compile(r"(\n\s+" + STRING + r",\n\s+)" + STRING)
 # A table's first byte is a length, so its byte string begins like this, wherever it stands and whether or not a map follows.
 TABLE = re.compile(r'b"\\x0[1-8]')
 # Words that the change requests still to land add, by the first word of their table.
-COMING = {b"expr": [b"at", b"all", b"order", b"strict", b"shape"]}
+COMING = {b"expr": [b"all", b"order", b"strict", b"shape"]}
 
 
 def bytes_of(literal):

@@ -1,5 +1,5 @@
 -- The lines of a question by what it asks: each asks one thing, which has its line. Assumes nothing.
-use Prim.Native.Nat.{ℕ, zero, suc, _≤_, _<_, suc-le-suc}
+use Prim.Native.Nat.{ℕ, zero, suc, _<_, suc-le-suc}
 use native.Mathlib.Omega.{arith}
 use mathlib.Core.Path.{_≡_, refl, sym, _∙_, ap}
 use mathlib.Core.List.{List, [], _∷_}
@@ -8,8 +8,6 @@ use lib.ListN.{length, getElem?}
 use Rattle.model.specs.Common.{Text, let-some, collect}
 use Rattle.model.specs.Records.{Question, Index}
 use Rattle.model.proofs.Tests.{none≢some, some-injective}
-use Rattle.records.specs.Meaning.{question-of}
-use Rattle.records.specs.declared.Question as code
 use Rattle.format.specs.Load.{accepted, load}
 use Rattle.format.proofs.Loaded.{loaded-well-formed}
 use Rattle.resolution.specs.Asked.{Asked, question-asked}
@@ -50,6 +48,7 @@ module _ (index : Index) where
   past-line (Question.expr m e context) n h = one-past index (Asked.expr m e context) n h
   past-line (Question.def m d) n h = one-past index (Asked.def m d) n h
   past-line (Question.type m t s) n h = one-past index (Asked.type m t s) n h
+  past-line (Question.at m position) n h = one-past index (Asked.at m position) n h
 
   line-is : (question : Question) (asked : Asked) (line : Line) (n : ℕ) → getElem? (question-asked index question) n ≡ some asked → asked-line index asked ≡ some line
       → getElem? (question-lines index question) n ≡ some line
@@ -57,6 +56,7 @@ module _ (index : Index) where
   line-is (Question.expr m e context) asked line n h k = one-there index (Asked.expr m e context) asked line n h k
   line-is (Question.def m d) asked line n h k = one-there index (Asked.def m d) asked line n h k
   line-is (Question.type m t s) asked line n h k = one-there index (Asked.type m t s) asked line n h k
+  line-is (Question.at m position) asked line n h k = one-there index (Asked.at m position) asked line n h k
 
   -- what is asked at a number has the line of that number
   pub line-there : (question : Question) (asked : Asked) (v : Verdict) (n : ℕ) → getElem? (question-asked index question) n ≡ some asked → verdict index asked ≡ some v
@@ -70,17 +70,3 @@ pub few : (file : Text) (index : Index) → load file ≡ accepted index → (qu
     → getElem? (question-lines index question) n ≡ some line → n < 512
 few file index loaded question line n e =
     omega (arith, below-length (question-lines index question) n e, few-lines index (loaded-well-formed file index loaded) question)
-
--- ------------------------------------------------------------------ what is asked, by its number
-
-pub asked-past : (index : Index) (question : Question) (n : ℕ) → 0 < n → none ≡ getElem? (question-asked index question) n
-unfolding question-asked
-asked-past index question zero h = absurd (omega arith)
-asked-past index (Question.expr m e context) (suc n) h = refl
-asked-past index (Question.def m d) (suc n) h = refl
-asked-past index (Question.type m t s) (suc n) h = refl
-
-pub asked-first : (index : Index) (x v : code.Question) (about : Asked) (n : ℕ) → x ≡ v → n ≤ 0 → getElem? (question-asked index (question-of v)) 0 ≡ some about
-    → some about ≡ getElem? (question-asked index (question-of x)) n
-asked-first index x v about zero e h is = sym is ∙ ap (λ q. getElem? (question-asked index (question-of q)) 0) (sym e)
-asked-first index x v about (suc n) e h is = absurd (omega arith)

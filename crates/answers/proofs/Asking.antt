@@ -13,24 +13,23 @@ use Rattle.format.proofs.Loaded.{loaded-well-formed}
 use Rattle.records.specs.Layout.{index-of, question-row, question-count}
 use Rattle.records.proofs.Lists.{each-at, each-length}
 use Rattle.resolution.specs.Asked.{Asked, question-asked}
-use Rattle.resolution.specs.Types.{first-table}
-use Rattle.resolution.specs.Programs.{Said, done}
-use Rattle.resolution.specs.TypeResolution.{says-type, asked-program}
-use Rattle.resolution.specs.Run.{Outcome, answered, refused, go-on, run, demand, resolve-asked}
+use Rattle.resolution.specs.Programs.{Said}
+use Rattle.resolution.specs.TypeResolution.{none-word, none-said, asked-program}
+use Rattle.resolution.specs.Run.{answered, run, demand, resolve-asked}
 use Rattle.resolution.specs.Answer.{type-text, Verdict, text-verdict, said-verdict, outcome-verdict, verdict, asked-lead, Line, line-text}
-use Rattle.resolution.proofs.RunLaws.{run-bind}
 use Rattle.resolution.specs.TableOk.{TableOk}
 use Rattle.resolution.proofs.Tables.{first-table-ok}
 use Rattle.type_table.specs.Layout.{table-of}
 use Rattle.type_table.specs.Promises.{Starts, cleared as cleared-types}
-use Rattle.type_table.specs.declared.Resolved.{Resolved}
 use Rattle.demands.specs.Meaning.{open-demands, cleared, cleared-places, zero-place}
-use Rattle.records.specs.declared.TypeLink.{TypeLink}
-use Rattle.type_resolution.specs.State.{Ready, Runs, typed}
-use Rattle.type_resolution.specs.Asking.{asked-of, expression-asked, typed-program}
-use Rattle.type_resolution.specs.declared.Asked as code
-use Rattle.answers.specs.Steps.{Loaded, Answering, StepIs, zero-types, zero-places, TypesKept, TypedAnswered, TypesHold, TypesAre, AskedAnswered, TypesAfter, LineThere, Stepped, line-with}
-use Rattle.answers.specs.declared.Tried.{Tried}
+use Rattle.type_resolution.specs.State.{Ready, Runs}
+use Rattle.type_resolution.specs.Asking.{says}
+use Rattle.views.specs.Asking.{asked-of}
+use Rattle.type_resolution.specs.declared.Said as code-said
+use Rattle.views.specs.declared.Asked as code
+use Rattle.line_text.specs.Lines.{Answering, line-with}
+use Rattle.answers.specs.Steps.{Loaded, StepIs, zero-types, zero-places, TypesKept, SaidAnswered, TypesHold, TypesAre, AskedAnswered, TypesAfter, LineThere, Stepped}
+use Rattle.line_text.specs.declared.Tried.{Tried}
 use Rattle.answers.specs.declared.Step.{Step}
 use Rattle.answers.proofs.AskedLines.{line-there, past-line}
 
@@ -52,17 +51,6 @@ places-zero places long = zeros max-open-demands places long
 
 -- ------------------------------------------------------------------ resolving
 
--- what is asked for a type says it
-asked-says : (index : Index) (asked : code.Asked) → asked-program index (asked-of asked) ≡ says-type (typed-program index asked)
-unfolding asked-program typed-program expression-asked
-asked-says index (code.Asked.Expr m e TypeLink.Absent) = refl
-asked-says index (code.Asked.Expr m e (TypeLink.To t)) = refl
-asked-says index (code.Asked.Def m d) = refl
-asked-says index (code.Asked.«Type» m t s) = refl
-
-said-as : Outcome ℕ → Outcome Said
-said-as o = go-on o (λ t table. answered (Said.type t) table)
-
 module _ (file words types started : List ℕ) (demands : List (List ℕ)) (loaded : Loaded file words types demands) (starts : Starts types started) where
   long : 8192 ≤ length types
   long = omega (arith, loaded .exact .types-long)
@@ -77,52 +65,56 @@ module _ (file words types started : List ℕ) (demands : List (List ℕ)) (load
         below = omega arith;
       }
 
-  module _ (asked : code.Asked) (types′ : List ℕ) (demands′ : List (List ℕ)) (r : Resolved)
-      (runs : Runs typed file words (typed-program (index-of file words) asked) 0 started demands types′ demands′ r) where
+  module _ (asked : code.Asked) (types′ : List ℕ) (demands′ : List (List ℕ)) (r : code-said.Said)
+      (runs : Runs says file words (asked-program (index-of file words) (asked-of asked)) 0 started demands types′ demands′ r) where
     abbrev about : Asked
     about = asked-of asked
 
-    outcome : said-as (typed r (table-of file types′)) ≡ resolve-asked (index-of file words) about
-    unfolding resolve-asked open-demands says-type run said-as
+    outcome : says r (table-of file types′) ≡ resolve-asked (index-of file words) about
+    unfolding resolve-asked open-demands
     outcome =
-        let handler = demand max-open-demands (index-of file words) [] in
-        ap said-as
-        (runs .outcome
-        ∙ ap (λ table. run handler (typed-program (index-of file words) asked) table) (starts .table long file))
-        ∙ sym (run-bind handler (typed-program (index-of file words) asked) (λ t. done (Said.type t)) first-table)
-        ∙ ap (λ p. run handler p first-table) (sym (asked-says (index-of file words) asked))
+        runs .outcome ∙ ap (λ table. run (demand max-open-demands (index-of file words) []) (asked-program (index-of file words) about) table) (starts .table long file)
 
     -- a refusal is the definition's
-    pub refused-as : (number : ℕ) → r ≡ Resolved.Refused number → verdict (index-of file words) about ≡ some (Verdict.refused number)
-    unfolding verdict outcome-verdict typed said-as go-on
-    refused-as number e = ap outcome-verdict (sym outcome ∙ ap (λ x. said-as (typed x (table-of file types′))) e)
+    pub refused-as : (number : ℕ) → r ≡ code-said.Said.Refused number → verdict (index-of file words) about ≡ some (Verdict.refused number)
+    unfolding verdict outcome-verdict says
+    refused-as number e = ap outcome-verdict (sym outcome ∙ ap (λ x. says x (table-of file types′)) e)
 
-    module _ (t : ℕ) (e : r ≡ Resolved.Answered t) where
-      pub answered-as : resolve-asked (index-of file words) about ≡ answered (Said.type t) (table-of file types′)
-      unfolding typed said-as go-on
-      answered-as = sym outcome ∙ ap (λ x. said-as (typed x (table-of file types′))) e
+    -- what is said otherwise, with the verdict of it
+    module _ (said : Said) (is : says r (table-of file types′) ≡ answered said (table-of file types′)) (v : Verdict) (is-verdict : said-verdict (table-of file types′) said ≡ some v) where
+      answered-as : resolve-asked (index-of file words) about ≡ answered said (table-of file types′)
+      answered-as = sym outcome ∙ is
 
-      verdict-as : verdict (index-of file words) about ≡ some (text-verdict (type-text (table-of file types′) t))
-      unfolding verdict outcome-verdict said-verdict
-      verdict-as = ap outcome-verdict answered-as
+      verdict-as : verdict (index-of file words) about ≡ some v
+      unfolding verdict outcome-verdict
+      verdict-as = ap outcome-verdict answered-as ∙ is-verdict
 
       types-left : (last : List ℕ) (a : Tried) → TypesKept types′ last a → TypesAre file (index-of file words) about last a
-      types-left last (Tried.Line n) kept = record { said = Said.type t; is = answered-as ∙ ap (λ w. answered (Said.type t) (table-of file w)) (sym kept) }
+      types-left last (Tried.Line n) kept = record { said = said; is = answered-as ∙ ap (λ w. answered said (table-of file w)) (sym kept) }
       types-left last (Tried.Refused number) kept = kept
       types-left last Tried.NoRoom kept = kept
 
-      -- the type's line, or none, is the line about it
-      pub typed-answer : (out last out′ : List ℕ) (last-demands : List (List ℕ)) (a : Tried) → last-demands ≡ zero-places
-          → TypedAnswered (asked-lead about) (text-verdict (type-text (table-of file types′) t)) types′ out last out′ a
+      -- its line, or none, is the line about it
+      said-answer : (out last out′ : List ℕ) (last-demands : List (List ℕ)) (a : Tried) → last-demands ≡ zero-places
+          → SaidAnswered (asked-lead about) v types′ out last out′ a
           → AskedAnswered file (index-of file words) about out last last-demands out′ a
-      typed-answer out last out′ last-demands a none-open all =
-          record {
-            v = text-verdict (type-text (table-of file types′) t);
-            has = verdict-as;
-            is = all .is;
-            types-are = types-left last a (all .types-are);
-            demands-are = none-open;
-          }
+      said-answer out last out′ last-demands a none-open all =
+          record { v = v; has = verdict-as; is = all .is; types-are = types-left last a (all .types-are); demands-are = none-open }
+
+    module _ (out last out′ : List ℕ) (last-demands : List (List ℕ)) (a : Tried) (none-open : last-demands ≡ zero-places) where
+      pub typed-answer : (t : ℕ) → r ≡ code-said.Said.«Type» t
+          → SaidAnswered (asked-lead about) (text-verdict (type-text (table-of file types′) t)) types′ out last out′ a
+          → AskedAnswered file (index-of file words) about out last last-demands out′ a
+      unfolding says said-verdict
+      typed-answer t e all =
+          said-answer (Said.type t) (ap (λ x. says x (table-of file types′)) e) (text-verdict (type-text (table-of file types′) t)) refl out last out′ last-demands a none-open all
+
+      pub none-answer : r ≡ code-said.Said.None
+          → SaidAnswered (asked-lead about) (Verdict.worded none-word) types′ out last out′ a
+          → AskedAnswered file (index-of file words) about out last last-demands out′ a
+      unfolding says said-verdict
+      none-answer e all =
+          said-answer none-said (ap (λ x. says x (table-of file types′)) e) (Verdict.worded none-word) refl out last out′ last-demands a none-open all
 
 -- ------------------------------------------------------------------ a question by its number
 

@@ -20,10 +20,11 @@ use Rattle.resolution.proofs.Secrecy.{question-answered}
 use Rattle.resolution.proofs.LineFits.{line-fits}
 use Rattle.loader.specs.Load.{Filled}
 use Rattle.loader.specs.declared.Loaded.{Loaded as FileLoaded}
-use Rattle.answers.specs.Meaning.{put-first, verdict-answer, answer-of, answer-out, Lines, pieces-at, fill, lines-in, lines-from, answers-of, lines-out}
-use Rattle.answers.specs.Steps.{Exact, Loaded, Answering, AskedAnswered, LineThere, LinesLeave, LinesWritten, line-with, zero-types, zero-places}
+use Rattle.line_text.specs.Lines.{put-first, Answering, line-with}
+use Rattle.answers.specs.Meaning.{verdict-answer, answer-of, answer-out, Lines, pieces-at, fill, lines-in, lines-from, answers-of, lines-out}
+use Rattle.answers.specs.Steps.{Exact, Loaded, AskedAnswered, LineThere, LinesLeave, LinesWritten, zero-types, zero-places}
 use Rattle.answers.specs.Promises.{ExactAnswered, LeavesFrom, ExactAnsweredFrom, Buffers, Behind, Answered, AnsweredFrom}
-use Rattle.answers.specs.declared.Tried.{Tried}
+use Rattle.line_text.specs.declared.Tried.{Tried}
 use Rattle.answers.specs.declared.LineAnswer.{LineAnswer}
 use Rattle.answers.specs.declared.LinesAnswer.{LinesAnswer}
 use Rattle.answers.proofs.AskedLines.{past-line}

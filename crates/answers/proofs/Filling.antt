@@ -14,11 +14,12 @@ use Rattle.model.specs.Records.{Question, Index}
 use Rattle.model.specs.Limits.{answer-bytes}
 use Rattle.model.proofs.Tests.{none≢some, some-injective}
 use Rattle.resolution.specs.Answer.{Line, line-text, question-lines}
-use Rattle.answers.specs.Meaning.{put-first, Piece, pieces-of, pieces-behind, pieces-at, Lines, fill, answers-of, lines-out}
+use Rattle.line_text.specs.Lines.{put-first}
+use Rattle.answers.specs.Meaning.{Piece, pieces-of, pieces-behind, pieces-at, Lines, fill, answers-of, lines-out}
 use Rattle.answers.specs.Steps.{LineThere, After, LineStep, NoRoomStep, PastStep, LinesWritten}
 use Rattle.answers.specs.declared.LinesAnswer.{LinesAnswer}
 use Rattle.answers.proofs.AskedLines.{below-length}
-use Rattle.answers.proofs.Lines.{line-some}
+use Rattle.line_text.proofs.Lines.{line-some}
 
 -- ------------------------------------------------------------------ one piece of a list
 

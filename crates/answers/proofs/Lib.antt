@@ -1,5 +1,4 @@
--- Laws of lines, of a question that is answered, and of the lines of many questions.
-pub mod Lines
+-- Laws of a question that is answered, and of the lines of many questions.
 pub mod Asking
 pub mod Filling
 pub mod Entries

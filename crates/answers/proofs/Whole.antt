@@ -17,7 +17,8 @@ use Rattle.resolution.specs.Answer.{Line, line-text, question-lines}
 use Rattle.resolution.specs.Resolve.{Reply, line-at, written-of, answer, refusal-line, printed, resolve}
 use Rattle.resolution.proofs.LineFits.{line-fits}
 use Rattle.resolution.proofs.Secrecy.{question-answered}
-use Rattle.answers.specs.Meaning.{put-first, answer-of, answer-out, Piece, pieces-at, Lines, fill, lines-in, lines-from, answers-of, lines-out}
+use Rattle.line_text.specs.Lines.{put-first}
+use Rattle.answers.specs.Meaning.{answer-of, answer-out, Piece, pieces-at, Lines, fill, lines-in, lines-from, answers-of, lines-out}
 use Rattle.answers.specs.Steps.{LineThere}
 use Rattle.answers.specs.Promises.{Buffers}
 use Rattle.answers.specs.Whole.{LineOr, AnswersTheLine, printed-pieces, Stops, LinesOf, AnswersTheLines, Calls, CallsResolve, CallsEnd, left-in, lines-left}

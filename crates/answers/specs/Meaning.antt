@@ -2,7 +2,6 @@
 -- Definitions only; assumes nothing.
 use Prim.Native.Nat.{ℕ, suc}
 use mathlib.Core.List.{List, [], _∷_, _++_}
-use mathlib.Core.Option.{Option, none, some}
 use lib.Dec.{leb}
 use lib.ListN.{length, drop}
 use Rattle.model.specs.Common.{Text, if_then_else_}
@@ -10,22 +9,11 @@ use Rattle.model.specs.Records.{Question, Index}
 use Rattle.model.specs.Limits.{answer-bytes}
 use Rattle.model.specs.Refusals.{refusal-link}
 use Rattle.format.specs.Load.{Loading, load}
-use Rattle.resolution.specs.Asked.{Asked}
 use Rattle.resolution.specs.Answer.{Verdict, Line, line-text, line-written, question-lines}
 use Rattle.resolution.specs.Resolve.{Reply, written-of}
-use Rattle.type_resolution.specs.Asking.{asked-of}
-use Rattle.answers.specs.declared.FoundAsked.{FoundAsked}
+use Rattle.line_text.specs.Lines.{put-first}
 use Rattle.answers.specs.declared.LineAnswer.{LineAnswer}
 use Rattle.answers.specs.declared.LinesAnswer.{LinesAnswer}
-
--- the text at the start of the bytes; those behind it stay
-abbrev pub put-first : Text → Text → Text
-put-first text out = text ++ drop (length text) out
-
--- what a question asks at a number
-abbrev pub found-asked-of : FoundAsked → Option Asked
-found-asked-of FoundAsked.Past = none
-found-asked-of (FoundAsked.Found asked) = some (asked-of asked)
 
 -- ------------------------------------------------------------------ one line
 

@@ -3,7 +3,7 @@
 use Prim.Native.Nat.{ℕ, suc, _≤_, _<_}
 use mathlib.Core.Path.{_≡_}
 use mathlib.Core.Bool.{Bool, true, false}
-use mathlib.Core.List.{List, [], _++_}
+use mathlib.Core.List.{List, []}
 use mathlib.Core.Option.{none, some}
 use lib.ListN.{length, getElem?, replicate}
 use Rattle.model.specs.Common.{Text}
@@ -14,12 +14,12 @@ use Rattle.records.specs.Layout.{index-of}
 use Rattle.resolution.specs.Asked.{Asked}
 use Rattle.resolution.specs.Programs.{Said}
 use Rattle.resolution.specs.Run.{answered, resolve-asked}
-use Rattle.resolution.specs.Answer.{Verdict, verdict, asked-lead, verdict-fields, Line, line-text, question-lines}
+use Rattle.resolution.specs.Answer.{Verdict, verdict, asked-lead, Line, line-text, question-lines}
 use Rattle.type_table.specs.Layout.{table-of}
-use Rattle.type_text.specs.Text.{Wrote}
 use Rattle.demands.specs.Meaning.{zero-place}
-use Rattle.answers.specs.Meaning.{put-first, pieces-at, fill, answers-of, lines-out}
-use Rattle.answers.specs.declared.Tried.{Tried}
+use Rattle.line_text.specs.Lines.{LinePut, NotPut, TriedIs}
+use Rattle.answers.specs.Meaning.{pieces-at, fill, answers-of, lines-out}
+use Rattle.line_text.specs.declared.Tried.{Tried}
 use Rattle.answers.specs.declared.Step.{Step}
 use Rattle.answers.specs.declared.LinesAnswer.{LinesAnswer}
 
@@ -50,46 +50,6 @@ pub record Loaded (file words types : List ℕ) (demands : List (List ℕ)) : Ty
 
 -- ------------------------------------------------------------------ lines
 
--- the first three lead fields are few bytes
-pub record LeadPut (lead out out′ : Text) (r : ℕ) : Type 0 where
-  pub wrote : Wrote lead 0 out out′ r
-  pub few : r ≤ 29
-
--- a line stands at the start of the bytes
-pub record LinePut (line out out′ : Text) (n : ℕ) : Type 0 where
-  pub long : n ≡ length line
-  pub fits : n ≤ length out
-  pub bytes : out′ ≡ put-first line out
-
--- the line of a verdict, with what stands before it
-abbrev pub line-with : Text → Verdict → Text
-line-with lead v = lead ++ verdict-fields v
-
--- a line that is no refusal
-abbrev pub Answering : Verdict → Type 0
-Answering (Verdict.typed text) = Unit {0}
-Answering (Verdict.worded word) = Unit {0}
-Answering (Verdict.refused number) = ⊥
-
--- it stands at the start
-pub record AnswerPut (lead : Text) (v : Verdict) (out out′ : Text) (n : ℕ) : Type 0 where
-  pub answering : Answering v
-  pub put : LinePut (line-with lead v) out out′ n
-
-pub record NotPut (line out out′ : Text) : Type 0 where
-  pub short : length out < length line
-  pub same : out′ ≡ out
-
-pub record RefusedWith (v : Verdict) (number : ℕ) (out out′ : Text) : Type 0 where
-  pub is : v ≡ Verdict.refused number
-  pub same : out′ ≡ out
-
--- what became of a verdict: only a line that is no refusal is written, and only where there is room for it
-abbrev pub TriedIs : Text → Verdict → Text → Text → Tried → Type 0
-TriedIs lead v out out′ (Tried.Line n) = AnswerPut lead v out out′ n
-TriedIs lead v out out′ (Tried.Refused number) = RefusedWith v number out out′
-TriedIs lead v out out′ Tried.NoRoom = NotPut (line-with lead v) out out′
-
 -- what became of a line: it is written where there is room for it
 abbrev pub StepIs : Text → Text → Text → Step → Type 0
 StepIs line out out′ (Step.Line n) = LinePut line out out′ n
@@ -115,7 +75,7 @@ TypesKept types types′ (Tried.Line n) = types′ ≡ types
 TypesKept types types′ (Tried.Refused number) = types′ ≡ zero-types
 TypesKept types types′ Tried.NoRoom = types′ ≡ zero-types
 
-pub record TypedAnswered (lead : Text) (v : Verdict) (types out types′ out′ : List ℕ) (r : Tried) : Type 0 where
+pub record SaidAnswered (lead : Text) (v : Verdict) (types out types′ out′ : List ℕ) (r : Tried) : Type 0 where
   pub is : TriedIs lead v out out′ r
   pub types-are : TypesKept types types′ r
 

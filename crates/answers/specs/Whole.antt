@@ -12,7 +12,8 @@ use Rattle.resolution.specs.Asked.{Asked, HasLine, NumberOf}
 use Rattle.resolution.specs.Answer.{Line, line-text, line-written, question-lines}
 use Rattle.resolution.specs.Resolve.{Reply, refusal-line, resolve, answer}
 use Rattle.resolution.specs.Secrecy.{FilesSupposed, FilesSupposedAsWorded, LineAbout}
-use Rattle.answers.specs.Meaning.{put-first, verdict-answer, Piece, piece-text, pieces-at, Lines, lines-from}
+use Rattle.line_text.specs.Lines.{put-first}
+use Rattle.answers.specs.Meaning.{verdict-answer, Piece, piece-text, pieces-at, Lines, lines-from}
 use Rattle.answers.specs.Steps.{LineThere}
 use Rattle.answers.specs.Promises.{Buffers, Answered, AnsweredFrom}
 use Rattle.answers.specs.declared.LineAnswer.{LineAnswer}

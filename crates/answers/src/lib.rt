@@ -1,27 +1,24 @@
 // The public entries: a file is loaded, its questions are resolved, and their answer lines are written into a lent buffer.
 use demands::Place;
+use line_text::Tried;
+use line_text::Written;
 use loader::Loaded;
 use records::FoundQuestion;
-use records::Question;
-use type_resolution::Asked;
-use type_table::Resolved;
-use type_text::TypeText;
+use type_resolution::Said;
+use views::Asked;
+use views::FoundAsked;
 ghost use mathlib.Core.Path.{_≡_};
-ghost use Prim.Native.Nat.{_+_, _≤_, _<_};
-ghost use mathlib.Core.List.{_++_};
-ghost use lib.ListN.{length, getElem?};
-ghost use Rattle.model.specs.Common.{bytes};
-ghost use Rattle.model.specs.Records.{Index};
+ghost use Prim.Native.Nat.{_≤_, _<_};
+ghost use lib.ListN.{length};
 ghost use Rattle.records.specs.Layout.{index-of};
-ghost use Rattle.records.specs.Meaning.{question-of};
-ghost use Rattle.resolution.specs.Answer.{decimal, type-text, Verdict, text-verdict, asked-lead};
-ghost use Rattle.resolution.specs.Asked.{question-asked};
+ghost use Rattle.resolution.specs.Answer.{type-text, Verdict, text-verdict, asked-lead};
 ghost use Rattle.resolution.specs.TableOk.{TableOk};
+ghost use Rattle.resolution.specs.TypeResolution.{none-word};
 ghost use Rattle.type_table.specs.Layout.{table-of, Sound};
-ghost use Rattle.type_resolution.specs.Asking.{asked-of};
-ghost use Rattle.answers.specs.Meaning.{found-asked-of};
-ghost use Rattle.answers.specs.Steps.{LongIs, Exact, Loaded as HoldsFile, LeadPut, TriedIs, StepIs, line-with};
-ghost use Rattle.answers.specs.Steps.{TypedAnswered, AskedAnswered, Stepped, LinesWritten};
+ghost use Rattle.views.specs.Asking.{asked-of};
+ghost use Rattle.line_text.specs.Lines.{line-with};
+ghost use Rattle.answers.specs.Steps.{LongIs, Exact, Loaded as HoldsFile, StepIs};
+ghost use Rattle.answers.specs.Steps.{SaidAnswered, AskedAnswered, Stepped, LinesWritten};
 ghost use Rattle.answers.specs.Promises.{buffers, LongBuffers, ShortAnswer, Answered, ShortAnswers, AnsweredFrom};
 ghost use Rattle.answers.specs.Promises.{ExactAnswered, ExactAnsweredFrom};
 
@@ -42,19 +39,6 @@ pub enum LinesAnswer {
     FileRefused(u32, u32),
 }
 
-// What a question asks at a line's number.
-pub enum FoundAsked {
-    Past,
-    Found(Asked),
-}
-
-// What became of what is asked: its line is written, it is refused, or its line has no room.
-pub enum Tried {
-    Line(usize),
-    Refused(u32),
-    NoRoom,
-}
-
 // What became of a line.
 pub enum Step {
     Line(usize),
@@ -65,100 +49,16 @@ pub enum Step {
 // The lengths that the answer buffer and, in their crates, the other buffers must have.
 const ANSWER_BYTES: usize = 4160;
 
-// ------------------------------------------------------------------ lines
-
-// Writes a line's kind, module and number, each with its tab.
-fn put_fields(kind: &[u8], m: u32, n: u32, out: &mut [u8]) -> usize
-    requires { ⌜ length (now kind) ≤ 7 ⌝ }
-    requires { ⌜ 64 ≤ length (now out) ⌝ }
-    ensures { λ r. ⌜ LeadPut (now (kind .entry) ++ (decimal m ++ (bytes "\t" ++ (decimal n ++ bytes "\t")))) (now (out .entry)) (now (out .exit)) r ⌝ }
-{
-    let first = type_text::put(out, 0, kind);
-    let second = type_text::put_decimal(out, first, m as u64);
-    let third = type_text::put(out, second, b"\t");
-    let fourth = type_text::put_decimal(out, third, n as u64);
-    type_text::put(out, fourth, b"\t")
-}
-
-// The lead fields of a line, by what it is about.
-fn put_lead(asked: Asked, out: &mut [u8]) -> usize
-    requires { ⌜ 64 ≤ length (now out) ⌝ }
-    ensures { λ r. ⌜ LeadPut (asked-lead (asked-of asked)) (now (out .entry)) (now (out .exit)) r ⌝ }
-{
-    match asked {
-        Asked::Expr(m, e, _) => put_fields(b"expr\t", m, e.0, out),
-        Asked::Def(m, d) => put_fields(b"def\t", m, d.0, out),
-        Asked::Type(m, t, _) => put_fields(b"type\t", m, t, out),
-    }
-}
-
-// Writes the line of a type. The text goes straight behind the four lead fields, into the rest of the buffer lent from its middle; it is
-// measured before anything is written, and the lead fields and the LF come once it stands, so that a line without room and refusal 10
-// leave the buffer as it is.
-fn write_typed(file: &[u8], types: &[u32], t: u32, asked: Asked, out: &mut [u8]) -> Tried
-    requires { ⌜ Sound (now file) (now types) ⌝ }
-    requires { ⌜ TableOk (table-of (now file) (now types)) ⌝ }
-    ensures { λ r. ⌜ TriedIs (asked-lead (asked-of asked)) (text-verdict (type-text (table-of (now (file .entry)) (now (types .entry))) t)) (now (out .entry)) (now (out .exit)) r ⌝ }
-{
-    let mut lead = [0u8; 64];
-    let named = put_lead(asked, &mut lead);
-    let at = type_text::put(&mut lead, named, b"type\t");
-    let len = out.len();
-    if len <= at {
-        return Tried::NoRoom;
-    }
-    let end = len - 1;
-    match type_text::write_text(file, types, t, &mut out[at..end]) {
-        TypeText::TooLong => Tried::Refused(10),
-        TypeText::NoRoom => Tried::NoRoom,
-        TypeText::Written(n) => {
-            type_text::put(out, 0, &lead[..at]);
-            let last = type_text::put(out, at + n, b"\n");
-            Tried::Line(last)
-        }
-    }
-}
-
-// Writes the line of a refusal.
-fn write_refused(asked: Asked, number: u32, out: &mut [u8]) -> Step
-    ensures { λ r. ⌜ StepIs (line-with (asked-lead (asked-of asked)) (Verdict.refused number)) (now (out .entry)) (now (out .exit)) r ⌝ }
-{
-    let mut line = [0u8; 64];
-    let named = put_lead(asked, &mut line);
-    let word = type_text::put(&mut line, named, b"refused\t");
-    let digits = type_text::put_decimal(&mut line, word, number as u64);
-    let end = type_text::put(&mut line, digits, b"\n");
-    if out.len() < end {
-        return Step::NoRoom;
-    }
-    type_text::put(out, 0, &line[..end]);
-    Step::Line(end)
-}
-
 // ------------------------------------------------------------------ a line
-
-// What a question asks at a number: each asks one thing, and has one line.
-fn asked_at(question: Question, line: u32) -> FoundAsked
-    ensures { λ r. ⌜ ((index : Index) → found-asked-of r ≡ getElem? (question-asked index (question-of question)) line) ⌝ }
-{
-    if line > 0 {
-        return FoundAsked::Past;
-    }
-    match question {
-        Question::Expr(m, e, context) => FoundAsked::Found(Asked::Expr(m, e, context)),
-        Question::Def(m, d) => FoundAsked::Found(Asked::Def(m, d)),
-        Question::Type(m, t, s) => FoundAsked::Found(Asked::Type(m, t, s)),
-    }
-}
 
 // Writes the line of a type. Without one the type words are all zero.
 fn answer_typed(file: &[u8], types: &mut [u32], t: u32, asked: Asked, out: &mut [u8]) -> Tried
     requires { ⌜ Sound (now file) (now types) ⌝ }
     requires { ⌜ TableOk (table-of (now file) (now types)) ⌝ }
     requires { ⌜ length (now types) ≡ 8192 ⌝ }
-    ensures { λ r. ⌜ TypedAnswered (asked-lead (asked-of asked)) (text-verdict (type-text (table-of (now (file .entry)) (now (types .entry))) t)) (now (types .entry)) (now (out .entry)) (now (types .exit)) (now (out .exit)) r ⌝ }
+    ensures { λ r. ⌜ SaidAnswered (asked-lead (asked-of asked)) (text-verdict (type-text (table-of (now (file .entry)) (now (types .entry))) t)) (now (types .entry)) (now (out .entry)) (now (types .exit)) (now (out .exit)) r ⌝ }
 {
-    match write_typed(file, types, t, asked, out) {
+    match line_text::write_typed(file, types, t, asked, out) {
         Tried::Line(n) => Tried::Line(n),
         Tried::Refused(number) => {
             type_table::clear(types);
@@ -171,7 +71,21 @@ fn answer_typed(file: &[u8], types: &mut [u32], t: u32, asked: Asked, out: &mut 
     }
 }
 
-// Resolves what is asked of the loaded file and writes its line if it has a type. No demand is open behind it.
+// Writes the line `none`. Without room for it the type words are all zero.
+fn answer_none(types: &mut [u32], asked: Asked, out: &mut [u8]) -> Tried
+    requires { ⌜ length (now types) ≡ 8192 ⌝ }
+    ensures { λ r. ⌜ SaidAnswered (asked-lead (asked-of asked)) (Verdict.worded none-word) (now (types .entry)) (now (out .entry)) (now (types .exit)) (now (out .exit)) r ⌝ }
+{
+    match line_text::write_none(asked, out) {
+        Written::Line(n) => Tried::Line(n),
+        Written::NoRoom => {
+            type_table::clear(types);
+            Tried::NoRoom
+        }
+    }
+}
+
+// Resolves what is asked of the loaded file and writes its line if it is no refusal. No demand is open behind it.
 fn answer_asked(
     file: &[u8],
     words: &[u32],
@@ -184,14 +98,25 @@ fn answer_asked(
     ensures { λ r. ⌜ AskedAnswered (now (file .entry)) (index-of (now (file .entry)) (now (words .entry))) (asked-of asked) (now (out .entry)) (now (types .exit)) (now (demands .exit)) (now (out .exit)) r ⌝ }
 {
     type_table::start(types);
-    let resolved = type_resolution::resolve_asked(file, words, types, demands, asked);
+    let said = type_resolution::resolve_asked(file, words, types, demands, asked);
     demands::clear(demands);
-    match resolved {
-        Resolved::Answered(t) => answer_typed(file, types, t, asked, out),
-        Resolved::Refused(number) => {
+    match said {
+        Said::Type(t) => answer_typed(file, types, t, asked, out),
+        Said::None => answer_none(types, asked, out),
+        Said::Refused(number) => {
             type_table::clear(types);
             Tried::Refused(number)
         }
+    }
+}
+
+// Writes the line of a refusal.
+fn answer_refused(asked: Asked, number: u32, out: &mut [u8]) -> Step
+    ensures { λ r. ⌜ StepIs (line-with (asked-lead (asked-of asked)) (Verdict.refused number)) (now (out .entry)) (now (out .exit)) r ⌝ }
+{
+    match line_text::write_refused(asked, number, out) {
+        Written::Line(n) => Step::Line(n),
+        Written::NoRoom => Step::NoRoom,
     }
 }
 
@@ -210,12 +135,12 @@ fn answer_line(
     ensures { λ r. ⌜ Stepped (now (file .entry)) (index-of (now (file .entry)) (now (words .entry))) number line (now (types .entry)) (now (demands .entry)) (now (out .entry)) (now (types .exit)) (now (demands .exit)) (now (out .exit)) r ⌝ }
 {
     let question = records::question_row(words, number);
-    match asked_at(question, line) {
+    match views::asked_at(question, line) {
         FoundAsked::Past => Step::PastLast,
         FoundAsked::Found(asked) => match answer_asked(file, words, types, demands, asked, out) {
             Tried::Line(n) => Step::Line(n),
             Tried::NoRoom => Step::NoRoom,
-            Tried::Refused(refusal) => write_refused(asked, refusal, out),
+            Tried::Refused(refusal) => answer_refused(asked, refusal, out),
         },
     }
 }
@@ -298,7 +223,7 @@ fn answer_loaded(
             loader::clear(words);
             LineAnswer::FileRefused(5, 0)
         }
-        FoundQuestion::Found(question) => match asked_at(question, line) {
+        FoundQuestion::Found(question) => match views::asked_at(question, line) {
             FoundAsked::Past => {
                 type_table::clear(types);
                 demands::clear(demands);

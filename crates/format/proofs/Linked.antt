@@ -293,6 +293,7 @@ module _ (index : Index) (no-fault : link-fault index ≡ none) where
       (under (ltb e (length (the-module .expressions))) (all-below (length (the-module .types)) (link (some t))) test there)
       (List·Memᴰ·head refl))
   question-links (Question.def m d) h = tt
+  question-links (Question.at m position) h = tt
   question-links (Question.type m t s) h =
       λ present.
       let (the-module, here) = present in

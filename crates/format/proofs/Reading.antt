@@ -1,4 +1,4 @@
--- What a line that was read holds: a record of its kind, a root scope that is a module's, a question's numbers below 65,536. Assumes nothing.
+-- What a line that was read holds: a record of its kind, a root scope that is a module's, a question's numbers below 65,536 or 2^32. Assumes nothing.
 use Prim.Native.Nat.{ℕ, _≤_}
 use native.Mathlib.Omega.{arith}
 use mathlib.Core.Path.{_≡_, refl, sym, subst}
@@ -7,7 +7,7 @@ use mathlib.Core.Option.{Option, none, some}
 use lib.Dec.{leb}
 use Rattle.model.specs.Common.{Text, let-some}
 use Rattle.model.specs.Records.{Name, ScopeKind, Scope, TypeExpr, Definition, ExpressionInfo, Question}
-use Rattle.model.specs.Limits.{max-number}
+use Rattle.model.specs.Limits.{max-number, max-position}
 use Rattle.model.specs.WellFormed.{QuestionNumbers}
 use Rattle.model.proofs.Tests.{leb-le, none≢some}
 use Rattle.format.specs.declared.Kind.{Kind}
@@ -44,72 +44,86 @@ pub every-after : {A B : Type 0} {Q : B → Type 0} (o : Option A) {k : A → Op
 every-after none f = nothing
 every-after (some x) f = f x
 
--- ------------------------------------------------------------------ numbers below 65,536
+-- ------------------------------------------------------------------ numbers up to a bound
 
-abbrev Small : Value → Type 0
-Small v = num v ≤ max-number
+abbrev Small : ℕ → Value → Type 0
+Small most v = num v ≤ most
 
-number-small : (u : Text) → Every Small (numbered (number-of max-number u))
+number-small : (most : ℕ) (u : Text) → Every (Small most) (numbered (number-of most u))
 unfolding number-of
-number-small u = of (plain-number u)
+number-small most u = of (plain-number u)
   where
-    bounded : (n : ℕ) (b : Bool) → leb n max-number ≡ b → Every Small (numbered (only-if b n))
-    bounded n true e = this (number n) (leb-le n max-number e)
+    bounded : (n : ℕ) (b : Bool) → leb n most ≡ b → Every (Small most) (numbered (only-if b n))
+    bounded n true e = this (number n) (leb-le n most e)
     bounded n false e = nothing
 
-    of : (o : Option ℕ) → Every Small (numbered (let-some o none λ n. only-if (leb n max-number) n))
+    of : (o : Option ℕ) → Every (Small most) (numbered (let-some o none λ n. only-if (leb n most) n))
     of none = nothing
-    of (some n) = bounded n (leb n max-number) refl
+    of (some n) = bounded n (leb n most) refl
 
-abbrev SmallKind : Kind → Type 0
-SmallKind k = (u : Text) → Every Small (value-of k u)
+abbrev SmallKind : ℕ → Kind → Type 0
+SmallKind most k = (u : Text) → Every (Small most) (value-of k u)
 
-nothing-small : SmallKind Kind.Nothing
+nothing-small : (most : ℕ) → SmallKind most Kind.Nothing
 unfolding value-of
-nothing-small u = nothing
+nothing-small most u = nothing
 
-link-small : SmallKind Kind.Number
+link-small : SmallKind max-number Kind.Number
 unfolding value-of
-link-small u = number-small u
+link-small u = number-small max-number u
 
-slot-small : (k : Kind) → SmallKind k → (t : Text) → Every (λ (r : Read). Small (r .value)) (slot k t)
+position-small : SmallKind max-position Kind.Position
+unfolding value-of
+position-small u = number-small max-position u
+
+slot-small : (most : ℕ) (k : Kind) → SmallKind most k → (t : Text) → Every (λ (r : Read). Small most (r .value)) (slot k t)
 unfolding slot slot-field
-slot-small k small t = of (is-nothing k)
+slot-small most k small t = of (is-nothing k)
   where
-    held : (u : Text) {o : Option Value} → Every Small o → Every (λ (r : Read). Small (r .value)) (reading u o)
+    held : (u : Text) {o : Option Value} → Every (Small most) o → Every (λ (r : Read). Small most (r .value)) (reading u o)
     held u nothing = nothing
     held u (this v h) = this (record { value = v; rest = u }) h
 
-    of : (b : Bool) → Every (λ (r : Read). Small (r .value)) (elim b [ true ↦ some (record { value = absent; rest = t }) | false ↦ slot-field k t ])
+    of : (b : Bool) → Every (λ (r : Read). Small most (r .value)) (elim b [ true ↦ some (record { value = absent; rest = t }) | false ↦ slot-field k t ])
     of true = this (record { value = absent; rest = t }) (omega arith)
     of false = every-after (behind-tab t) λ u. held (behind u) (small (field-of u))
 
-record SmallTail (x : Tail) : Type 0 where
-  a : Small (x .a)
-  b : Small (x .b)
+record SmallTail (most-a most-b : ℕ) (x : Tail) : Type 0 where
+  a : Small most-a (x .a)
+  b : Small most-b (x .b)
 
-tail-small : (s : Shape) → SmallKind (s .a) → SmallKind (s .b) → (t : Text) → Every SmallTail (tail s t)
+tail-small : (s : Shape) (most-a most-b : ℕ) → SmallKind most-a (s .a) → SmallKind most-b (s .b) → (t : Text) → Every (SmallTail most-a most-b) (tail s t)
 unfolding tail three
-tail-small s small-a small-b t =
-    every-then {P = λ h. (Small (h .a)) × (Small (h .b))}
-    (every-then (slot-small (s .a) small-a t) λ x p.
-    every-then (slot-small (s .b) small-b (x .rest)) λ y q.
+tail-small s most-a most-b small-a small-b t =
+    every-then {P = λ h. (Small most-a (h .a)) × (Small most-b (h .b))}
+    (every-then (slot-small most-a (s .a) small-a t) λ x p.
+    every-then (slot-small most-b (s .b) small-b (x .rest)) λ y q.
     every-after (slot (s .c) (y .rest)) λ z. this (record { a = x .value; b = y .value; c = z .value; rest = z .rest }) (p, q))
     λ h small.
     every-after (items (s .list) (h .rest)) λ r.
     this (record { a = h .a; b = h .b; c = h .c; list = r .list; rest = r .rest }) (record { a = small .0; b = small .1 })
 
-question-tail : (w : QuestionWord) (t : Text) → Every SmallTail (tail (question-shape w) t)
-question-tail QuestionWord.Expr t = tail-small (question-shape QuestionWord.Expr) link-small link-small t
-question-tail QuestionWord.Def t = tail-small (question-shape QuestionWord.Def) link-small link-small t
-question-tail QuestionWord.OfType t = tail-small (question-shape QuestionWord.OfType) link-small link-small t
-question-tail QuestionWord.Other t = tail-small (question-shape QuestionWord.Other) nothing-small nothing-small t
+-- the second number of a question is a link, or a position
+abbrev most-second : QuestionWord → ℕ
+most-second QuestionWord.Expr = max-number
+most-second QuestionWord.Def = max-number
+most-second QuestionWord.OfType = max-number
+most-second QuestionWord.At = max-position
+most-second QuestionWord.Other = max-number
 
-question-small : (w : QuestionWord) (x : Tail) → SmallTail x → Every QuestionNumbers (question-as w x)
+question-tail : (w : QuestionWord) (t : Text) → Every (SmallTail max-number (most-second w)) (tail (question-shape w) t)
+question-tail QuestionWord.Expr t = tail-small (question-shape QuestionWord.Expr) max-number max-number link-small link-small t
+question-tail QuestionWord.Def t = tail-small (question-shape QuestionWord.Def) max-number max-number link-small link-small t
+question-tail QuestionWord.OfType t = tail-small (question-shape QuestionWord.OfType) max-number max-number link-small link-small t
+question-tail QuestionWord.At t = tail-small (question-shape QuestionWord.At) max-number max-position link-small position-small t
+question-tail QuestionWord.Other t = tail-small (question-shape QuestionWord.Other) max-number max-number (nothing-small max-number) (nothing-small max-number) t
+
+question-small : (w : QuestionWord) (x : Tail) → SmallTail max-number (most-second w) x → Every QuestionNumbers (question-as w x)
 unfolding question-as
 question-small QuestionWord.Expr x small = this (Question.expr (num (x .a)) (num (x .b)) (maybe-num (x .c))) (small .a, small .b)
 question-small QuestionWord.Def x small = this (Question.def (num (x .a)) (num (x .b))) (small .a, small .b)
 question-small QuestionWord.OfType x small = this (Question.type (num (x .a)) (num (x .b)) (num (x .c))) (small .a, small .b)
+question-small QuestionWord.At x small = this (Question.at (num (x .a)) (num (x .b))) (small .a, small .b)
 question-small QuestionWord.Other x small = nothing
 
 -- ------------------------------------------------------------------ a scope without parent

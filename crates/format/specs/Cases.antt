@@ -145,6 +145,11 @@ refusals =
     ∷ refused-file "index→1\nM→m\nS→-→module\nQ→expr→0→0\n" 4 4
     ∷ refused-file "index→1\nM→m\nS→-→module\nQ→def→0→-\n" 4 4
     ∷ refused-file "index→1\nM→m\nS→-→module\nQ→def→0→0\nM→n\n" 4 5
+    -- `at`: a position, not a link; nothing else
+    ∷ refused-file "index→1\nM→m\nS→-→module\nQ→at→0→4294967296\n" 4 4
+    ∷ refused-file "index→1\nM→m\nS→-→module\nQ→at→0→-\n" 4 4
+    ∷ refused-file "index→1\nM→m\nS→-→module\nQ→at→65536→0\n" 4 4
+    ∷ refused-file "index→1\nM→m\nS→-→module\nQ→at→0→0→0\n" 4 4
     -- 4 before 5, whatever the line
     ∷ refused-file "index→1\nM→m\nS→-→module\nT→ptr→9\nT\n" 4 5
     -- 3 before 4: a line counts by its first field
@@ -219,6 +224,7 @@ taken =
     ∷ accepted-file "index→1\nM→m\nS→-→module\nQ→type→1→9→9\n" 1 1
     ∷ accepted-file "index→1\nM→m\nS→-→module\nQ→def→0→65535\n" 1 1
     ∷ accepted-file "index→1\nQ→def→0→0\n" 0 1
+    ∷ accepted-file "index→1\nQ→at→65535→4294967295\n" 0 1
     -- nothing at all, and the limits of a field
     ∷ accepted-file "index→1\n" 0 0
     ∷ accepted-file "index→1\nM→~~~~~~~~~~~~~~~~~~~~~~~~~~~~~~~~~~~~~~~~~~~~~~~~~~~~~~~~~~~~~~~~\nS→-→module\n" 1 0

@@ -50,6 +50,7 @@ question-linked index (Question.expr m e t) =
 question-linked index (Question.def m d) = true
 question-linked index (Question.type m t s) =
     let-some (module-at index m) true λ the-module. ltb t (length (the-module .types)) && ltb s (length (the-module .scopes))
+question-linked index (Question.at m position) = true
 
 -- ------------------------------------------------------------------ all lines, in the file's order
 

@@ -189,10 +189,12 @@ abbrev pub question-shape : QuestionWord → Shape
 question-shape QuestionWord.Expr = shape Kind.Number Kind.Number Kind.MaybeNumber Listed.Empty
 question-shape QuestionWord.Def = shape Kind.Number Kind.Number Kind.Nothing Listed.Empty
 question-shape QuestionWord.OfType = shape Kind.Number Kind.Number Kind.Number Listed.Empty
+question-shape QuestionWord.At = shape Kind.Number Kind.Position Kind.Nothing Listed.Empty
 question-shape QuestionWord.Other = bare
 
 unfoldable pub question-as : QuestionWord → Tail → Option Question
 question-as QuestionWord.Expr x = some (Question.expr (num (x .a)) (num (x .b)) (maybe-num (x .c)))
 question-as QuestionWord.Def x = some (Question.def (num (x .a)) (num (x .b)))
 question-as QuestionWord.OfType x = some (Question.type (num (x .a)) (num (x .b)) (num (x .c)))
+question-as QuestionWord.At x = some (Question.at (num (x .a)) (num (x .b)))
 question-as QuestionWord.Other x = none

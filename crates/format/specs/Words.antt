@@ -115,7 +115,11 @@ node-words =
 
 abbrev pub question-words : List (Keyword QuestionWord)
 question-words =
-    keyword "expr" QuestionWord.Expr ∷ keyword "def" QuestionWord.Def ∷ keyword "type" QuestionWord.OfType ∷ []
+    keyword "expr" QuestionWord.Expr
+    ∷ keyword "def" QuestionWord.Def
+    ∷ keyword "type" QuestionWord.OfType
+    ∷ keyword "at" QuestionWord.At
+    ∷ []
 
 -- "`! -`"
 abbrev pub unary-op-words : List (Keyword UnaryOp)

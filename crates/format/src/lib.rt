@@ -110,5 +110,6 @@ pub enum QuestionWord {
     Expr,
     Def,
     OfType,
+    At,
     Other,
 }

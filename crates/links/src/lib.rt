@@ -355,6 +355,7 @@ fn question_linked(words: &[u32], q: u32) -> bool
         Question::Expr(m, e, t) => context_linked(words, m, e, t),
         Question::Def(_, _) => true,
         Question::Type(m, t, s) => type_question_linked(words, m, t, s),
+        Question::At(_, _) => true,
     }
 }
 

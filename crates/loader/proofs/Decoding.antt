@@ -288,12 +288,13 @@ module _ (file words t : List ℕ) (first : ℕ) (x : Tail) (low : first ≤ 204
 
   -- ---------------------------------------------------------------- Q
 
-  pub question-row-is : (w : QuestionWord) (h : TailHeld file words (question-shape w) t first x) → (question-number w ≡ 3 → ⊥)
+  pub question-row-is : (w : QuestionWord) (h : TailHeld file words (question-shape w) t first x) → (question-number w ≡ 4 → ⊥)
       → question-as w (tail-by file (question-shape w) x (h .list)) ≡ some (question-by (question-number w) (parts (x .a) .low) (parts (x .b) .low) (parts (x .c) .low))
   unfolding question-as question-by option-at
   question-row-is QuestionWord.Expr h known = ap (λ o. some (Question.expr (parts (x .a) .low) (parts (x .b) .low) o)) (linked-is (link-by (parts (x .c) .low)))
   question-row-is QuestionWord.Def h known = refl
   question-row-is QuestionWord.OfType h known = refl
+  question-row-is QuestionWord.At h known = refl
   question-row-is QuestionWord.Other h known = absurd (known refl)
 
   -- no question has a list
@@ -301,6 +302,7 @@ module _ (file words t : List ℕ) (first : ℕ) (x : Tail) (low : first ≤ 204
   question-none QuestionWord.Expr h = h .none refl
   question-none QuestionWord.Def h = h .none refl
   question-none QuestionWord.OfType h = h .none refl
+  question-none QuestionWord.At h = h .none refl
   question-none QuestionWord.Other h = h .none refl
 
 -- ------------------------------------------------------------------ no word of the place
@@ -357,11 +359,12 @@ node-other NodeWord.New x e = absurd (omega arith)
 node-other NodeWord.Paren x e = absurd (omega arith)
 node-other NodeWord.Other x e = refl
 
-pub question-other : (w : QuestionWord) (x : tails.Tail) → question-number w ≡ 3 → question-as w x ≡ none
+pub question-other : (w : QuestionWord) (x : tails.Tail) → question-number w ≡ 4 → question-as w x ≡ none
 unfolding question-as
 question-other QuestionWord.Expr x e = absurd (omega arith)
 question-other QuestionWord.Def x e = absurd (omega arith)
 question-other QuestionWord.OfType x e = absurd (omega arith)
+question-other QuestionWord.At x e = absurd (omega arith)
 question-other QuestionWord.Other x e = refl
 
 -- ------------------------------------------------------------------ origins and scopes

@@ -43,10 +43,10 @@ module _ (file t : Text) where
     question-read x o p e = rw (here, sym is-word, p, e)
 
     module _ {words′ : List ℕ} (n : Counts) (x : Tail) (h : TailHeld file words′ (question-shape w) (drop q file) (n .items) x) where
-      pub question-no-kind : question-number w ≡ 3 → line-from LineWord.Q t ≡ none
+      pub question-no-kind : question-number w ≡ 4 → line-from LineWord.Q t ≡ none
       question-no-kind e = question-read (tail-by file (question-shape w) x (h .list)) none (h .is) (question-other w (tail-by file (question-shape w) x (h .list)) e)
 
-      module _ {words words″ : List ℕ} (fine : Fine file words n) (room : HasRoom LineWord.Q n) (known : question-number w ≡ 3 → ⊥) (behind : Behind (n .items) words words′)
+      module _ {words words″ : List ℕ} (fine : Fine file words n) (room : HasRoom LineWord.Q n) (known : question-number w ≡ 4 → ⊥) (behind : Behind (n .items) words words′)
           (put : Put words′ (question-place (n .questions)) (question-number w ∷ parts (x .a) .low ∷ parts (x .b) .low ∷ parts (x .c) .low ∷ []) words″) where
         abbrev value : Question
         value = question-by (question-number w) (parts (x .a) .low) (parts (x .b) .low) (parts (x .c) .low)

@@ -1,4 +1,4 @@
--- The number of a word in a row: its place in document 01's list. A word that is none of them has the number behind the last. Assumes nothing.
+-- The number of a word in a row: its place in the list of its words (document 01's; of questions, those of the change requests behind them). A word that is none of them has the number behind the last. Assumes nothing.
 use Prim.Native.Nat.{ℕ}
 use Rattle.format.specs.declared.ScopeWord.{ScopeWord}
 use Rattle.format.specs.declared.TypeWord.{TypeWord}
@@ -66,4 +66,5 @@ abbrev pub question-number : QuestionWord → ℕ
 question-number QuestionWord.Expr = 0
 question-number QuestionWord.Def = 1
 question-number QuestionWord.OfType = 2
-question-number QuestionWord.Other = 3
+question-number QuestionWord.At = 3
+question-number QuestionWord.Other = 4

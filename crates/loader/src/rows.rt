@@ -315,7 +315,7 @@ pub fn read_question(file: &[u8], at: usize, words: &mut [u32], n: Counts) -> Li
     let TailRead::Is(tail) = read_tail(file, shapes::question_shape(word), q, words, n.items) else {
         return LineRead::Wrong;
     };
-    if kind == 3 {
+    if kind == 4 {
         return LineRead::Wrong;
     }
     put_four(

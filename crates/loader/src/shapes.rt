@@ -392,6 +392,12 @@ pub fn question_shape(word: QuestionWord) -> Shape
             c: Kind::Number,
             list: Listed::Empty,
         },
+        QuestionWord::At => Shape {
+            a: Kind::Number,
+            b: Kind::Position,
+            c: Kind::Nothing,
+            list: Listed::Empty,
+        },
         QuestionWord::Other => Shape {
             a: Kind::Nothing,
             b: Kind::Nothing,
@@ -408,7 +414,8 @@ pub fn question_number(word: QuestionWord) -> u32
         QuestionWord::Expr => 0,
         QuestionWord::Def => 1,
         QuestionWord::OfType => 2,
-        QuestionWord::Other => 3,
+        QuestionWord::At => 3,
+        QuestionWord::Other => 4,
     }
 }
 

@@ -5,3 +5,4 @@ pub mod Search
 pub mod ReturnLoops
 pub mod ScopeChain
 pub mod Collected
+pub mod AtPosition

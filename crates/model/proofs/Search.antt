@@ -1,11 +1,12 @@
 -- Searches in lists: what `first` and `last` find, by the places at which the test passes. Assumes nothing.
 use Prim.Native.Nat.{ℕ, zero, suc, _<_, zero-le, suc-le-suc}
 use mathlib.Core.Path.{_≡_, refl, sym, _∙_, ap, subst}
-use mathlib.Core.Bool.{Bool, true, false, false≢true}
+use mathlib.Core.Bool.{Bool, true, false, _||_, false≢true}
 use mathlib.Core.List.{List, [], _∷_, _++_}
 use mathlib.Core.Option.{Option, none, some}
 use lib.ListN.{length, getElem?}
-use Rattle.model.specs.Common.{if_then_else_, let-some, or-else, next, first, last}
+use Rattle.model.specs.Common.{if_then_else_, let-some, or-else, next, first, last, any}
+use Rattle.model.proofs.Tests.{or-right}
 
 -- ------------------------------------------------------------------ places
 
@@ -44,6 +45,24 @@ last-same test test′ (x ∷ xs) [] h =
     λ i. or-else (next (last-same test test′ xs [] (λ n. h (suc n)) i)) (if h zero i then some zero else none)
 last-same test test′ (x ∷ xs) (y ∷ ys) h =
     λ i. or-else (next (last-same test test′ xs ys (λ n. h (suc n)) i)) (if h zero i then some zero else none)
+
+pub any-same : {A : Type 0} (test test′ : A → Bool) (xs ys : List A)
+    → ((n : ℕ) → passes test xs n ≡ passes test′ ys n) → any test xs ≡ any test′ ys
+unfolding any
+any-same test test′ [] [] h = refl
+any-same test test′ [] (y ∷ ys) h = λ i. h zero i || any-same test test′ [] ys (λ n. h (suc n)) i
+any-same test test′ (x ∷ xs) [] h = λ i. h zero i || any-same test test′ xs [] (λ n. h (suc n)) i
+any-same test test′ (x ∷ xs) (y ∷ ys) h = λ i. h zero i || any-same test test′ xs ys (λ n. h (suc n)) i
+
+pub any-none : {A : Type 0} (test : A → Bool) (xs : List A) → ((n : ℕ) → passes test xs n ≡ false) → any test xs ≡ false
+unfolding any
+any-none test xs h = any-same test test xs [] h
+
+pub any-some : {A : Type 0} (test : A → Bool) (xs : List A) (n : ℕ) → passes test xs n ≡ true → any test xs ≡ true
+unfolding any
+any-some test [] n e = absurd (false≢true e)
+any-some test (x ∷ xs) zero e = ap (λ b. b || any test xs) e
+any-some test (x ∷ xs) (suc n) e = or-right (test x) (any test xs) (any-some test xs n e)
 
 -- ------------------------------------------------------------------ nothing is found where no test passes
 

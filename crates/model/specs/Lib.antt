@@ -2,6 +2,7 @@
 pub mod Common
 pub mod Records
 pub mod Lookups
+pub mod AtPosition
 pub mod Links
 pub mod Limits
 pub mod Refusals

@@ -19,6 +19,7 @@ use Rattle.model.specs.Lookups.{
   let-value,
   resolve-name-at-position,
   definition-for-identifier-expr,
+  expression-at-position,
   is-function,
   first-function-around,
 }
@@ -189,6 +190,56 @@ recorded-cases = 0 gives some 2 ∷ 1 gives some 6 ∷ 2 gives none ∷ 4 gives 
 pub recorded-holds : Holds (definition-for-identifier-expr names) recorded-cases
 unfolding looks-up names recorded-cases
 recorded-holds = refl
+
+-- ------------------------------------------------------------------ by position
+
+-- E 0 is the longest and has E 1 and E 2 within; E 3 and E 4 are equally short and start at different bytes; E 5 is as long as E 2 and stands where it
+-- does; E 6 is empty, E 7 ends before it starts
+unfoldable pub spans : Module
+spans =
+    record {
+      name = bytes "spans";
+      scopes = scopes;
+      types = [];
+      definitions = [];
+      expressions =
+          identifier 0 10 30 none
+          ∷ identifier 0 10 14 none
+          ∷ identifier 1 20 22 none
+          ∷ identifier 0 24 27 none
+          ∷ identifier 1 26 29 none
+          ∷ identifier 2 20 22 none
+          ∷ identifier 0 40 40 none
+          ∷ identifier 0 48 44 none
+          ∷ [];
+    }
+
+-- position: the shortest expression there, of equally short ones that with the highest number
+unfoldable pub at-position-cases : List (Case ℕ (Option ℕ))
+at-position-cases =
+    -- the first byte counts, the byte behind the last doesn't
+    9 gives none
+    ∷ 10 gives some 1
+    ∷ 13 gives some 1
+    ∷ 14 gives some 0
+    ∷ 29 gives some 0
+    ∷ 30 gives none
+    -- equally short ones: the highest number, from the same byte on and from different ones
+    ∷ 20 gives some 5
+    ∷ 21 gives some 5
+    ∷ 25 gives some 3
+    ∷ 26 gives some 4
+    ∷ 27 gives some 4
+    -- an empty span and one that ends before it starts cover nothing
+    ∷ 40 gives none
+    ∷ 44 gives none
+    ∷ 46 gives none
+    ∷ 48 gives none
+    ∷ []
+
+pub at-position-holds : Holds (expression-at-position spans) at-position-cases
+unfolding looks-up spans at-position-cases
+at-position-holds = refl
 
 -- ------------------------------------------------------------------ by kind
 

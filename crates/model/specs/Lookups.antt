@@ -1,9 +1,9 @@
--- The lookups of `place.rs`, `semantic_index.rs` and `builtins.rs`, under their Rust names. Assumes nothing.
-use Prim.Native.Nat.{ℕ, zero, suc}
+-- The lookups of `place.rs`, `semantic_index.rs` and `builtins.rs`, under their Rust names; and the expression at a byte, which the Rust doesn't look for. Assumes nothing.
+use Prim.Native.Nat.{ℕ, zero, suc, _-_}
 use mathlib.Core.Bool.{Bool, true, false, not, _&&_, _||_}
 use mathlib.Core.List.{List, [], _∷_}
 use mathlib.Core.Option.{Option, none}
-use lib.Dec.{eqb, leb}
+use lib.Dec.{eqb, leb, ltb}
 use lib.ListN.{getElem?}
 use Rattle.model.specs.Common.{let-some, is-none, first-some, first, last, any, eq-numbers, bytes}
 use Rattle.model.specs.Records.{Name, Scope, TypeExpr, DefinitionKind, Definition, ExpressionInfo, Module, Index}
@@ -128,6 +128,28 @@ resolve-name-at-position the-module name s start end =
 -- `definition_for_identifier_expr`: the recorded link
 unfoldable pub definition-for-identifier-expr : Module → ℕ → Option ℕ
 definition-for-identifier-expr the-module e = let-some (expression-at the-module e) none (λ expression. expression .definition)
+
+-- ------------------------------------------------------------------ the expression at a byte
+
+-- the change request: "start ≤ position < end"
+unfoldable pub covers : ℕ → ExpressionInfo → Bool
+covers position expression = leb (expression .start) position && ltb position (expression .end)
+
+abbrev pub span : ExpressionInfo → ℕ
+span expression = expression .end - expression .start
+
+-- it covers the byte, and its span is shorter than the given one
+unfoldable pub covers-shorter : ℕ → ℕ → ExpressionInfo → Bool
+covers-shorter position than expression = covers position expression && ltb (span expression) than
+
+-- it covers the byte, and none of the module that does is shorter
+unfoldable pub covers-shortest : Module → ℕ → ExpressionInfo → Bool
+covers-shortest the-module position expression =
+    covers position expression && not (any (covers-shorter position (span expression)) (the-module .expressions))
+
+-- the change request: "among expressions with start ≤ position < end it picks the shortest span, and of equally short ones the highest record number"
+unfoldable pub expression-at-position : Module → ℕ → Option ℕ
+expression-at-position the-module position = last (covers-shortest the-module position) (the-module .expressions)
 
 -- ------------------------------------------------------------------ the function of a `return`
 

@@ -132,6 +132,8 @@ pub data Question : Type 0 where
   def : ℕ → ℕ → Question
   -- module, t, scope
   type : ℕ → ℕ → ℕ → Question
+  -- module, position
+  at : ℕ → ℕ → Question
 
 -- what a file holds: the version of its first line, and the records of the lines behind it
 pub record Index : Type 0 where

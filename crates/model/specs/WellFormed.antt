@@ -21,6 +21,7 @@ use Rattle.model.specs.Links.{
 }
 use Rattle.model.specs.Limits.{
   max-number,
+  max-position,
   max-modules,
   max-scopes,
   max-type-exprs,
@@ -83,12 +84,14 @@ QuestionLinks index (Question.expr m e none) = Unit {0}
 QuestionLinks index (Question.expr m e (some t)) = Present (expression-in index m e) → Present (type-in index m t)
 QuestionLinks index (Question.def m d) = Unit {0}
 QuestionLinks index (Question.type m t s) = Present (module-at index m) → Present (type-in index m t) × Present (scope-in index m s)
+QuestionLinks index (Question.at m position) = Unit {0}
 
--- "links, counts and indexes are below 65,536": those that the answer line shows
+-- "links, counts and indexes are below 65,536, positions below 2^32": those that the answer line shows
 abbrev pub QuestionNumbers : Question → Type 0
 QuestionNumbers (Question.expr m e context) = (m ≤ max-number) × (e ≤ max-number)
 QuestionNumbers (Question.def m d) = (m ≤ max-number) × (d ≤ max-number)
 QuestionNumbers (Question.type m t s) = (m ≤ max-number) × (t ≤ max-number)
+QuestionNumbers (Question.at m position) = (m ≤ max-number) × (position ≤ max-position)
 
 -- ------------------------------------------------------------------ the whole
 

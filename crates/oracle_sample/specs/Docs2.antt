@@ -93,6 +93,27 @@ docs-16-printed :
     (bytes "index\t1\n"
     ++ bytes "M\tm\n"
     ++ bytes "S\t-\tmodule\n"
+    ++ bytes "E\t0\t4\t6\t-\t-\tplain\t-\t-\tbool\n"
+    ++ bytes "E\t0\t5\t7\t-\t-\tplain\t-\t-\tlit\t-\n"
+    ++ bytes "E\t0\t3\t3\t-\t-\tplain\t-\t-\tlit\tu32\n"
+    ++ bytes "Q\tat\t0\t4\n"
+    ++ bytes "Q\tat\t0\t5\n"
+    ++ bytes "Q\tat\t0\t7\n"
+    ++ bytes "Q\tat\t0\t3\n"
+    ++ bytes "Q\tat\t1\t4\n")
+    ≡ bytes "at\t0\t4\ttype\tbool\n"
+    ++ bytes "at\t0\t5\ttype\tfelt\n"
+    ++ bytes "at\t0\t7\tnone\n"
+    ++ bytes "at\t0\t3\tnone\n"
+    ++ bytes "at\t1\t4\tnone\n"
+unfolding resolves
+docs-16-printed = refl
+
+docs-17-printed :
+    resolve
+    (bytes "index\t1\n"
+    ++ bytes "M\tm\n"
+    ++ bytes "S\t-\tmodule\n"
     ++ bytes "E\t0\t0\t1\t-\t-\tplain\t-\t-\tun\t!\t-\n"
     ++ bytes "E\t0\t2\t3\t-\t-\tplain\t-\t-\tarr\t-\n"
     ++ bytes "E\t0\t4\t5\t-\t-\tplain\t-\t-\ttidx\t-\t0\n"
@@ -109,9 +130,9 @@ docs-16-printed :
     ++ bytes "expr\t0\t3\trefused\t6\n"
     ++ bytes "expr\t0\t4\trefused\t6\n"
 unfolding resolves
-docs-16-printed = refl
+docs-17-printed = refl
 
-docs-17-printed :
+docs-18-printed :
     resolve
     (bytes "index\t1\n"
     ++ bytes "M\tm\n"
@@ -121,9 +142,9 @@ docs-17-printed :
     ++ bytes "Q\tdef\t0\t0\n")
     ≡ bytes "def\t0\t0\trefused\t7\n"
 unfolding resolves
-docs-17-printed = refl
+docs-18-printed = refl
 
-docs-18-printed :
+docs-19-printed :
     resolve
     (bytes "index\t1\n"
     ++ bytes "M\tm\n"
@@ -134,9 +155,9 @@ docs-18-printed :
     ++ bytes "Q\texpr\t0\t2\t-\n")
     ≡ bytes "expr\t0\t2\ttype\tbool\n"
 unfolding resolves
-docs-18-printed = refl
+docs-19-printed = refl
 
-docs-19-printed :
+docs-20-printed :
     resolve
     (bytes "index\t1\n"
     ++ bytes "M\tm\n"
@@ -145,4 +166,4 @@ docs-19-printed :
     ++ bytes "Q\texpr\t0\t0\t-\n")
     ≡ bytes "expr\t0\t0\ttype\terror\n"
 unfolding resolves
-docs-19-printed = refl
+docs-20-printed = refl

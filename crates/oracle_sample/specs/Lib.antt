@@ -1,11 +1,14 @@
 -- Index files and what the oracle printed for them. Written by definition_check.py.
 pub mod Ascii
+pub mod At1
+pub mod At2
 pub mod Corner1
 pub mod Corner2
 pub mod Corner3
 pub mod Damaged1
 pub mod Docs1
 pub mod Docs2
+pub mod Docs3
 pub mod Limit1
 pub mod Limit2
 pub mod Limit3

@@ -75,6 +75,54 @@ wrong-module-without-scope-printed :
 unfolding resolves
 wrong-module-without-scope-printed = refl
 
+wrong-q-at-0-7-3-missing-printed :
+    resolve
+    (bytes "index\t1\n"
+    ++ bytes "M\tmain\n"
+    ++ bytes "S\t-\tmodule\n"
+    ++ bytes "S\t0\tfunction\n"
+    ++ bytes "T\tfelt\n"
+    ++ bytes "T\tu32\n"
+    ++ bytes "D\t0\td\t0\t1\t0\t1\tloop\n"
+    ++ bytes "E\t0\t0\t1\t-\t-\tplain\t-\t-\tbool\n"
+    ++ bytes "Q\tdef\t0\t0\n"
+    ++ bytes "Q\tat\t0\n")
+    ≡ bytes "refused\t4\t10\n"
+unfolding resolves
+wrong-q-at-0-7-3-missing-printed = refl
+
+wrong-q-at-0-7-longer-printed :
+    resolve
+    (bytes "index\t1\n"
+    ++ bytes "M\tmain\n"
+    ++ bytes "S\t-\tmodule\n"
+    ++ bytes "S\t0\tfunction\n"
+    ++ bytes "T\tfelt\n"
+    ++ bytes "T\tu32\n"
+    ++ bytes "D\t0\td\t0\t1\t0\t1\tloop\n"
+    ++ bytes "E\t0\t0\t1\t-\t-\tplain\t-\t-\tbool\n"
+    ++ bytes "Q\tdef\t0\t0\n"
+    ++ bytes "Q\tat\t0\t7\t0\n")
+    ≡ bytes "refused\t4\t10\n"
+unfolding resolves
+wrong-q-at-0-7-longer-printed = refl
+
+wrong-q-at-65535-4294967295-3-4-printed :
+    resolve
+    (bytes "index\t1\n"
+    ++ bytes "M\tmain\n"
+    ++ bytes "S\t-\tmodule\n"
+    ++ bytes "S\t0\tfunction\n"
+    ++ bytes "T\tfelt\n"
+    ++ bytes "T\tu32\n"
+    ++ bytes "D\t0\td\t0\t1\t0\t1\tloop\n"
+    ++ bytes "E\t0\t0\t1\t-\t-\tplain\t-\t-\tbool\n"
+    ++ bytes "Q\tdef\t0\t0\n"
+    ++ bytes "Q\tat\t65535\t+1\n")
+    ≡ bytes "refused\t4\t10\n"
+unfolding resolves
+wrong-q-at-65535-4294967295-3-4-printed = refl
+
 wrong-q-expr-0-0-1-4-7-printed :
     resolve
     (bytes "index\t1\n"
@@ -90,46 +138,3 @@ wrong-q-expr-0-0-1-4-7-printed :
     ≡ bytes "refused\t5\t10\n"
 unfolding resolves
 wrong-q-expr-0-0-1-4-7-printed = refl
-
-wrong-q-type-0-1-1-4-7-printed :
-    resolve
-    (bytes "index\t1\n"
-    ++ bytes "M\tmain\n"
-    ++ bytes "S\t-\tmodule\n"
-    ++ bytes "S\t0\tfunction\n"
-    ++ bytes "T\tfelt\n"
-    ++ bytes "T\tu32\n"
-    ++ bytes "D\t0\td\t0\t1\t0\t1\tloop\n"
-    ++ bytes "E\t0\t0\t1\t-\t-\tplain\t-\t-\tbool\n"
-    ++ bytes "Q\tdef\t0\t0\n"
-    ++ bytes "Q\ttype\t0\t1\t3\n")
-    ≡ bytes "refused\t5\t10\n"
-unfolding resolves
-wrong-q-type-0-1-1-4-7-printed = refl
-
-wrong-s-1-loop-2-7-printed :
-    resolve
-    (bytes "index\t1\n"
-    ++ bytes "M\tmain\n"
-    ++ bytes "S\t-\tmodule\n"
-    ++ bytes "S\t0\tfunction\n"
-    ++ bytes "S\t1\tx\r\n"
-    ++ bytes "T\tfelt\n"
-    ++ bytes "T\tu32\n"
-    ++ bytes "D\t0\td\t0\t1\t0\t1\tloop\n"
-    ++ bytes "E\t0\t0\t1\t-\t-\tplain\t-\t-\tbool\n"
-    ++ bytes "Q\tdef\t0\t0\n")
-    ≡ bytes "refused\t4\t5\n"
-unfolding resolves
-wrong-s-1-loop-2-7-printed = refl
-
-wrong-same-module-printed :
-    resolve
-    (bytes "index\t1\n"
-    ++ bytes "M\tmain\n"
-    ++ bytes "S\t-\tmodule\n"
-    ++ bytes "M\tmain\n"
-    ++ bytes "S\t-\tmodule\n")
-    ≡ bytes "refused\t4\t4\n"
-unfolding resolves
-wrong-same-module-printed = refl

@@ -269,7 +269,11 @@ expression-row file words e =
 -- ------------------------------------------------------------------ Q
 
 unfoldable pub question-by : ℕ → ℕ → ℕ → ℕ → Question
-question-by kind m a b = option-at kind (Question.expr m a (link-by b) ∷ Question.def m a ∷ []) (Question.type m a b)
+question-by kind m a b =
+    option-at
+    kind
+    (Question.expr m a (link-by b) ∷ Question.def m a ∷ Question.type m a b ∷ [])
+    (Question.at m a)
 
 unfoldable pub question-row : List ℕ → ℕ → Question
 question-row words q =

@@ -186,6 +186,7 @@ abbrev pub question-of : Question → model.Question
 question-of (Question.Expr m e t) = model.Question.expr m (e .0) (type-link-of t)
 question-of (Question.Def m d) = model.Question.def m (d .0)
 question-of (Question.«Type» m t s) = model.Question.type m t (s .0)
+question-of (Question.At m position) = model.Question.at m position
 
 abbrev pub found-question-of : FoundQuestion → Option model.Question
 found-question-of FoundQuestion.Absent = none

@@ -175,11 +175,12 @@ pub struct ExpressionInfo {
     pub node: Expression,
 }
 
-// A question names its module, and then its record and its context or scope.
+// A question names its module, and then its record and its context or scope, or a position.
 pub enum Question {
     Expr(u32, ExpressionId, TypeLink),
     Def(u32, DefinitionIndex),
     Type(u32, u32, FileScopeId),
+    At(u32, u32),
 }
 
 // A record by number, or none where there is no such record.
@@ -667,6 +668,25 @@ pub fn expression_row(words: &[u32], first: u32, i: u32) -> ExpressionInfo
     }
 }
 
+// The start of an expression alone, and its end alone: for searches through the expressions of a module.
+pub fn expression_start(words: &[u32], first: u32, i: u32) -> u32
+    ensures { λ r. ⌜ ((file : List ℕ) → r ≡ expression-row file (now (words .entry)) (first + i) .start) ⌝ }
+{
+    word_at(
+        words,
+        EXPRESSIONS + 11 * ((first as usize) + (i as usize)) + 2,
+    )
+}
+
+pub fn expression_end(words: &[u32], first: u32, i: u32) -> u32
+    ensures { λ r. ⌜ ((file : List ℕ) → r ≡ expression-row file (now (words .entry)) (first + i) .end) ⌝ }
+{
+    word_at(
+        words,
+        EXPRESSIONS + 11 * ((first as usize) + (i as usize)) + 3,
+    )
+}
+
 // An expression of a module, by its number there: its node and its origin by value, lists beside as ranges.
 pub fn expression_at(words: &[u32], m: u32, e: ExpressionId) -> FoundExpression
     ensures { λ r. ⌜ ((file : List ℕ) → found-expression-of file (now (words .entry)) r
@@ -698,7 +718,8 @@ fn question_of(kind: u32, m: u32, a: u32, b: u32) -> Question
     match kind {
         0 => Question::Expr(m, ExpressionId(a), type_link(b)),
         1 => Question::Def(m, DefinitionIndex(a)),
-        _ => Question::Type(m, a, FileScopeId(b)),
+        2 => Question::Type(m, a, FileScopeId(b)),
+        _ => Question::At(m, a),
     }
 }
 

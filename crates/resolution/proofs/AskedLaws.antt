@@ -2,13 +2,14 @@
 -- nothing.
 use Prim.Native.Nat.{ℕ, _≤_}
 use native.Mathlib.Omega.{arith}
-use mathlib.Core.Path.{_≡_, sym, _∙_, ap, subst}
+use mathlib.Core.Path.{_≡_, refl, sym, _∙_, ap, subst}
 use mathlib.Core.List.{[], _∷_, List·Memᴰ, List·Memᴰ·head}
 use mathlib.Core.Option.{Option, none, some}
 use lib.ListN.{length, getElem?}
 use Rattle.model.specs.Common.{let-some, collect}
-use Rattle.model.specs.Records.{Question, Index}
-use Rattle.model.specs.Limits.{max-number, max-open-demands}
+use Rattle.model.specs.Records.{Question, Module, Index}
+use Rattle.model.specs.Lookups.{module-at, expression-at-position}
+use Rattle.model.specs.Limits.{max-number, max-position, max-open-demands}
 use Rattle.model.specs.WellFormed.{QuestionNumbers, WellFormed}
 use Rattle.model.proofs.Tests.{none≢some, some-injective}
 use Rattle.model.proofs.Collected.{collected-length}
@@ -17,7 +18,8 @@ use Rattle.resolution.specs.Inside.{Body, AboutOutside}
 use Rattle.resolution.specs.Answer.{type-text, Verdict, text-verdict, said-verdict, outcome-verdict, verdict, Line, asked-line, question-lines}
 use Rattle.resolution.specs.Types.{Table, first-table}
 use Rattle.resolution.specs.Programs.{Demand, Answer, Said, Program, done, resolve-ast-type, definition-semantic-type, expression-semantic-type}
-use Rattle.resolution.specs.TypeResolution.{expression-in-context, says-type, asked-program}
+use Rattle.resolution.specs.Programs as programs
+use Rattle.resolution.specs.TypeResolution.{expression-in-context, says-type, none-word, none-said, says-at, at-program, asked-program}
 use Rattle.resolution.specs.Run.{Outcome, answered, refused, go-on, run, demand, resolve-asked}
 use Rattle.resolution.proofs.RunLaws.{run-bind}
 
@@ -40,6 +42,23 @@ says-verdict handler p table = by-outcome (run handler p table) (ap outcome-verd
     by-outcome (answered t after) e = (text-verdict (type-text after t), e)
     by-outcome (refused n) e = (Verdict.refused n, e)
 
+-- what is asked at a byte has one too, with the type, a refusal or `none`
+says-at-verdict : (handler : (d : Demand) → Table → Outcome (Answer d)) (m : ℕ) (found : Option ℕ) (table : Table)
+    → (v : Verdict) × (outcome-verdict (run handler (says-at m found) table) ≡ some v)
+unfolding programs.let-some run outcome-verdict said-verdict says-at
+says-at-verdict handler m none table = (Verdict.worded none-word, refl)
+says-at-verdict handler m (some e) table = says-verdict handler (expression-semantic-type m e none) table
+
+at-verdict : (handler : (d : Demand) → Table → Outcome (Answer d)) (index : Index) (m position : ℕ) (table : Table)
+    → (v : Verdict) × (outcome-verdict (run handler (at-program index m position) table) ≡ some v)
+unfolding programs.let-some run outcome-verdict said-verdict at-program
+at-verdict handler index m position table = by-module (module-at index m)
+  where
+    by-module : (o : Option Module)
+        → (v : Verdict) × (outcome-verdict (run handler (programs.let-some o (done none-said) λ the-module. says-at m (expression-at-position the-module position)) table) ≡ some v)
+    by-module none = (Verdict.worded none-word, refl)
+    by-module (some the-module) = says-at-verdict handler m (expression-at-position the-module position) table
+
 pub has-line : (index : Index) (asked : Asked) → HasLine asked → (line : Line) × (asked-line index asked ≡ some line)
 unfolding asked-line verdict resolve-asked asked-program
 has-line index asked has = let (v, e) = by-kind asked has in (record { asked = asked; verdict = v }, ap (λ o. let-some o none (λ w. some (record { asked = asked; verdict = w }))) e)
@@ -49,6 +68,7 @@ has-line index asked has = let (v, e) = by-kind asked has in (record { asked = a
     by-kind (Asked.expr m e (some t)) tt = says-verdict (demand max-open-demands index []) (expression-in-context index m e t) first-table
     by-kind (Asked.def m d) tt = says-verdict (demand max-open-demands index []) (definition-semantic-type m d) first-table
     by-kind (Asked.type m t s) tt = says-verdict (demand max-open-demands index []) (resolve-ast-type m t s) first-table
+    by-kind (Asked.at m position) tt = at-verdict (demand max-open-demands index []) index m position first-table
 
 -- what a question asks of the outside of a body, it asks in an index that has it
 pub asked-among : (index : Index) (body : Body) (question : Question) (asked : Asked) → Asks question asked → AboutOutside index body asked
@@ -57,6 +77,7 @@ unfolding question-asked
 asked-among index body (Question.expr m e context) asked asks about = List·Memᴰ·head asks
 asked-among index body (Question.def m d) asked asks about = List·Memᴰ·head asks
 asked-among index body (Question.type m t s) asked asks about = List·Memᴰ·head asks
+asked-among index body (Question.at m position) asked asks about = List·Memᴰ·head asks
 
 -- a question that asks one thing has the same lines in two indexes of which that has the same line
 module _ (A B : Index) (asked : Asked) (same : asked-line A asked ≡ asked-line B asked) where
@@ -71,6 +92,7 @@ module _ (A B : Index) (asked : Asked) (same : asked-line A asked ≡ asked-line
   numbered-same (Question.expr m e context) asks number is = ap (λ l. getElem? l number) (one-same (Asked.expr m e context) asks)
   numbered-same (Question.def m d) asks number is = ap (λ l. getElem? l number) (one-same (Asked.def m d) asks)
   numbered-same (Question.type m t s) asks number is = ap (λ l. getElem? l number) (one-same (Asked.type m t s) asks)
+  numbered-same (Question.at m position) asks number is = ap (λ l. getElem? l number) (one-same (Asked.at m position) asks)
 
 -- ------------------------------------------------------------------ how much it asks
 
@@ -79,6 +101,7 @@ unfolding question-asked
 few-asked index formed (Question.expr m e context) = omega arith
 few-asked index formed (Question.def m d) = omega arith
 few-asked index formed (Question.type m t s) = omega arith
+few-asked index formed (Question.at m position) = omega arith
 
 pub few-lines : (index : Index) → WellFormed index → (question : Question) → length (question-lines index question) ≤ max-lines
 unfolding question-lines
@@ -92,6 +115,7 @@ abbrev pub AskedNumbers : Asked → Type 0
 AskedNumbers (Asked.expr m e context) = (m ≤ max-number) × (e ≤ max-number)
 AskedNumbers (Asked.def m d) = (m ≤ max-number) × (d ≤ max-number)
 AskedNumbers (Asked.type m t s) = (m ≤ max-number) × (t ≤ max-number)
+AskedNumbers (Asked.at m position) = (m ≤ max-number) × (position ≤ max-position)
 
 one-numbers : (other asked : Asked) → List·Memᴰ asked (other ∷ []) → AskedNumbers other → AskedNumbers asked
 one-numbers other asked (List·Memᴰ·head is) h = subst AskedNumbers (sym is) h
@@ -102,3 +126,4 @@ unfolding question-asked
 asked-numbers index formed (Question.expr m e context) h asked mem = one-numbers (Asked.expr m e context) asked mem h
 asked-numbers index formed (Question.def m d) h asked mem = one-numbers (Asked.def m d) asked mem h
 asked-numbers index formed (Question.type m t s) h asked mem = one-numbers (Asked.type m t s) asked mem h
+asked-numbers index formed (Question.at m position) h asked mem = one-numbers (Asked.at m position) asked mem h

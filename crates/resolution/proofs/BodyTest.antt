@@ -10,13 +10,13 @@ use lib.Dec.{eqb}
 use lib.ListN.{getElem?}
 use Rattle.model.specs.Common.{if_then_else_, let-some, any, every}
 use Rattle.model.specs.Records.{Name, ScopeKind, Scope, TypeExpr, Definition, Expression, ExpressionInfo, Module, Index}
-use Rattle.model.specs.Lookups.{module-at, scope-at, parent, chain-from, scope-chain, among}
+use Rattle.model.specs.Lookups.{module-at, scope-at, parent, chain-from, scope-chain, among, covers}
 use Rattle.model.specs.Links.{scope-in, type-in, definition-in, expression-in, link, type-types, definition-types, definition-expressions, expression-types, expression-definitions, expression-expressions}
 use Rattle.model.specs.WellFormed.{Present, WellFormed}
 use Rattle.model.proofs.Tests.{and-left, and-right, or-right, under, not-true, eqb-sound, eqb-self, none≢some, some-injective, some-of}
 use Rattle.model.proofs.ScopeChain.{scope-chain-step}
 use Rattle.resolution.specs.Asked.{Asked, asked-module, asked-types}
-use Rattle.resolution.specs.Inside.{Body, IsBody, Inside, body-scope, below, OutsideScope, OutsideDefinition, OutsideExpression, OutsideType, definition-names, expression-names, type-names, question-names, NothingLinksInside, AboutOutside}
+use Rattle.resolution.specs.Inside.{Body, IsBody, Inside, body-scope, below, OutsideScope, OutsideDefinition, OutsideExpression, OutsideType, definition-names, expression-names, type-names, question-names, NothingLinksInside, NotCoveredInside, AboutOutside}
 use Rattle.resolution.specs.Secrecy.{NoOutsideLiteralInBinary}
 
 -- ------------------------------------------------------------------ lists
@@ -290,12 +290,18 @@ module _ (index : Index) (b : BodyScopes) where
   abbrev type-there : ℕ → ℕ → Bool
   type-there m t = let-some (type-in index m t) false λ type. true
 
+  -- no expression inside covers the byte
+  abbrev uncovered : ℕ → ℕ → Bool
+  uncovered m position =
+      let-some (module-at index m) true λ the-module. every (λ x. not (in-body b m (x .scope)) || not (covers position x)) (the-module .expressions)
+
   -- `AboutOutside`, a clause for each kind of line
   unfoldable pub about-test : Asked → Bool
   about-test (Asked.expr m e none) = expression-there m e
   about-test (Asked.expr m e (some t)) = expression-there m e && type-there m t
   about-test (Asked.def m d) = definition-there m d
   about-test (Asked.type m t s) = type-there m t && scope-there m s
+  about-test (Asked.at m position) = uncovered m position
 
   -- with its T listed
   unfoldable pub asked-test : Types → Asked → Bool
@@ -571,12 +577,20 @@ module _ (index : Index) (b : BodyScopes) (types : Types) (good : Tested index b
       of none at k = absurd (false≢true k)
       of (some x) at k = (x, at)
 
+  uncovered-about : (m position : ℕ) → uncovered index b m position ≡ true → NotCoveredInside index (b .body) m position
+  uncovered-about m position h e x found covering inside =
+      let (the-module, at, there) = some-of (module-at index m) (λ n. getElem? (n .expressions) e) x found in
+      let test = true-at (λ (n : Module). every (λ y. not (in-body b m (y .scope)) || not (covers position y)) (n .expressions)) (module-at index m) the-module h at in
+      let fails = under (in-body b m (x .scope)) (not (covers position x)) (every-at (λ y. not (in-body b m (y .scope)) || not (covers position y)) (the-module .expressions) e x test there) (inside-tested inside) in
+      false≢true (sym (not-true (covers position x) fails) ∙ covering)
+
   pub about : (asked : Asked) → about-test index b asked ≡ true → AboutOutside index (b .body) asked
   unfolding about-test
   about (Asked.expr m e none) h = expression-about m e h
   about (Asked.expr m e (some t)) h =
       (expression-about m e (and-left (expression-there index b m e) _ h), type-about m t (and-right (expression-there index b m e) _ h))
   about (Asked.def m d) h = definition-about m d h
+  about (Asked.at m position) h = uncovered-about m position h
   about (Asked.type m t s) h = (type-about m t (and-left (type-there index b m t) _ h), scope-about m s (and-right (type-there index b m t) _ h))
 
 -- ------------------------------------------------------------------ what is outside

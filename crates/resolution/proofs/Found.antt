@@ -39,6 +39,11 @@ found-link (some x) = both x (List·Memᴰ·head refl)
 pub data Each {A : Type 0} (R : A → A → Type 0) : Option A → Option A → Type 0 where
   each : (x y : A) → R x y → Each R (some x) (some y)
 
+-- both find nothing, or each something, of which R holds
+pub data Both {A : Type 0} (R : A → A → Type 0) : Option A → Option A → Type 0 where
+  nor : Both R none none
+  and : (x y : A) → R x y → Both R (some x) (some y)
+
 pub each-two : {A : Type 0} {R : A → A → Type 0} {o o′ : Option A} {x y : A} → o ≡ some x → o′ ≡ some y → R x y → Each R o o′
 each-two {R = R} {o′ = o′} {x = x} {y = y} e e′ r =
     subst (λ z. Each R z o′) (sym e) (subst (λ z. Each R (some x) z) (sym e′) (each x y r))
@@ -89,6 +94,12 @@ module _ {Good : Demand → Type 0} where
       → Each R o o′ → Same Good p p′ → ((x y : A) → R x y → Same Good (f x) (f′ y)) → Same Good (let-some o p f) (let-some o′ p′ f′)
   unfolding let-some
   same-each (each x y r) h g = g x y r
+
+  pub same-both : {A B : Type 0} {R : A → A → Type 0} {o o′ : Option A} {p p′ : Program B} {f f′ : A → Program B}
+      → Both R o o′ → Same Good p p′ → ((x y : A) → R x y → Same Good (f x) (f′ y)) → Same Good (let-some o p f) (let-some o′ p′ f′)
+  unfolding let-some
+  same-both nor h g = h
+  same-both (and x y r) h g = g x y r
 
   pub same-if : {A : Type 0} (b : Bool) {p p′ q q′ : Program A} → Same Good p p′ → Same Good q q′
       → Same Good (if b then p else q) (if b then p′ else q′)

@@ -9,7 +9,7 @@ use lib.Dec.{ltb, leb}
 use lib.ListN.{length, getElem?, length-append}
 use Rattle.model.specs.Common.{Text, if_then_else_, let-some, bytes}
 use Rattle.model.specs.Records.{Question, Index}
-use Rattle.model.specs.Limits.{max-number, answer-bytes}
+use Rattle.model.specs.Limits.{max-number, max-position, answer-bytes}
 use Rattle.model.proofs.Tests.{leb-le, ltb-false, none≢some, some-injective}
 use Rattle.model.proofs.Collected.{collected-from}
 use Rattle.format.specs.Load.{accepted, load}
@@ -52,6 +52,18 @@ unfolding decimal
 decimal-five n h =
     more-digits 4 10000 (more-digits 3 1000 (more-digits 2 100 (more-digits 1 10 one-digit))) n (omega arith) (suc n)
 
+-- ten for a position
+decimal-ten : (n : ℕ) → n ≤ max-position → length (decimal n) ≤ 10
+unfolding decimal
+decimal-ten n h =
+    more-digits 9 1000000000
+    (more-digits 8 100000000
+    (more-digits 7 10000000
+    (more-digits 6 1000000 (more-digits 5 100000 (more-digits 4 10000 (more-digits 3 1000 (more-digits 2 100 (more-digits 1 10 one-digit))))))))
+    n
+    (omega arith)
+    (suc n)
+
 decimal-two : (n : ℕ) → n ≤ 10 → length (decimal n) ≤ 2
 unfolding decimal
 decimal-two n h = more-digits 1 10 one-digit n (omega arith) (suc n)
@@ -66,11 +78,12 @@ unfolding lead-of
 lead-fits-of word a b most-a most-b h ha hb =
     omega (arith, length-append word (bytes "\t" ++ (a ++ (bytes "\t" ++ (b ++ bytes "\t")))), length-append a (bytes "\t" ++ (b ++ bytes "\t")), length-append b (bytes "\t"))
 
-lead-fits : (asked : Asked) → AskedNumbers asked → length (asked-lead asked) ≤ 19
+lead-fits : (asked : Asked) → AskedNumbers asked → length (asked-lead asked) ≤ 24
 unfolding asked-lead
-lead-fits (Asked.expr m e context) (hm, he) = lead-fits-of (bytes "expr") (decimal m) (decimal e) 5 5 (omega arith) (decimal-five m hm) (decimal-five e he)
-lead-fits (Asked.def m d) (hm, hd) = lead-fits-of (bytes "def") (decimal m) (decimal d) 5 5 (omega arith) (decimal-five m hm) (decimal-five d hd)
-lead-fits (Asked.type m t s) (hm, ht) = lead-fits-of (bytes "type") (decimal m) (decimal t) 5 5 (omega arith) (decimal-five m hm) (decimal-five t ht)
+lead-fits (Asked.expr m e context) (hm, he) = omega (arith, lead-fits-of (bytes "expr") (decimal m) (decimal e) 5 5 (omega arith) (decimal-five m hm) (decimal-five e he))
+lead-fits (Asked.def m d) (hm, hd) = omega (arith, lead-fits-of (bytes "def") (decimal m) (decimal d) 5 5 (omega arith) (decimal-five m hm) (decimal-five d hd))
+lead-fits (Asked.type m t s) (hm, ht) = omega (arith, lead-fits-of (bytes "type") (decimal m) (decimal t) 5 5 (omega arith) (decimal-five m hm) (decimal-five t ht))
+lead-fits (Asked.at m position) (hm, hp) = lead-fits-of (bytes "at") (decimal m) (decimal position) 5 10 (omega arith) (decimal-five m hm) (decimal-ten position hp)
 
 abbrev pub Fits : Verdict → Type 0
 Fits (Verdict.typed text) = length text ≤ max-text
@@ -125,8 +138,8 @@ verdict-fits index question number line e =
 asked-fits : (index : Index) (asked : Asked) → AskedNumbers asked → (line : Line) → asked-line index asked ≡ some line → length (line-text line) ≤ answer-bytes
 unfolding line-text
 asked-fits index asked numbers line e =
-    let lead : length (asked-lead (line .asked)) ≤ 19 = subst (λ a. length (asked-lead a) ≤ 19) (sym (line-about index asked line e)) (lead-fits asked numbers) in
-    omega (arith, append-le (asked-lead (line .asked)) (verdict-fields (line .verdict)) 19 4102 lead (fields-fit (line .verdict) (asked-verdict-fits index asked line e)))
+    let lead : length (asked-lead (line .asked)) ≤ 24 = subst (λ a. length (asked-lead a) ≤ 24) (sym (line-about index asked line e)) (lead-fits asked numbers) in
+    omega (arith, append-le (asked-lead (line .asked)) (verdict-fields (line .verdict)) 24 4102 lead (fields-fit (line .verdict) (asked-verdict-fits index asked line e)))
 
 pub line-fits : (file : Text) (index : Index) (place : ℕ) (question : Question) → load file ≡ accepted index → getElem? (index .questions) place ≡ some question
     → (number : ℕ) (line : Line) → getElem? (question-lines index question) number ≡ some line → length (line-text line) ≤ answer-bytes

@@ -63,6 +63,8 @@ use Rattle.resolution.specs.TypeResolution.{
   program,
   expression-in-context,
   says-type,
+  says-at,
+  at-program,
   asked-program,
 }
 use Rattle.resolution.specs.Run.{Outcome, refused, run, is-open, demand, resolve-asked}
@@ -539,12 +541,19 @@ in-context-safe ok index m e t =
     safe-bind ok (safe-asked (Demand.type m t (info .scope)) tt) λ after ok₁ x context good.
     safe-asked (Demand.expression m e (some context)) good
 
+at-safe : {table : Table} → TableOk table → (index : Index) (m position : ℕ) → Safe SaidOk table (at-program index m position)
+unfolding at-program says-at
+at-safe ok index m position =
+    safe-let-some _ (safe-done (lit≤ tt)) λ the-module e′.
+    safe-let-some _ (safe-done (lit≤ tt)) λ e e″. says-type-safe ok (safe-asked (Demand.expression m e none) tt)
+
 pub asked-safe : {table : Table} → TableOk table → (index : Index) (asked : Asked) → Safe SaidOk table (asked-program index asked)
 unfolding asked-program
 asked-safe ok index (Asked.expr m e none) = says-type-safe ok (safe-asked (Demand.expression m e none) tt)
 asked-safe ok index (Asked.expr m e (some t)) = says-type-safe ok (in-context-safe ok index m e t)
 asked-safe ok index (Asked.def m d) = says-type-safe ok (safe-asked (Demand.definition m d) tt)
 asked-safe ok index (Asked.type m t s) = says-type-safe ok (safe-asked (Demand.type m t s) tt)
+asked-safe ok index (Asked.at m position) = at-safe ok index m position
 
 pub asked-ok : (index : Index) (asked : Asked) → OutcomeOk SaidOk first-table (resolve-asked index asked)
 unfolding resolve-asked

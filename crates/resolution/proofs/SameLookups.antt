@@ -4,9 +4,9 @@ use mathlib.Core.Path.{_≡_, refl, sym, _∙_, ap, subst}
 use mathlib.Core.Bool.{Bool, true, false, not, _&&_, _||_, false≢true}
 use mathlib.Core.List.{List, [], _∷_, List·Memᴰ, List·Memᴰ·head, Memᴰ·append-left}
 use mathlib.Core.Option.{Option, none, some}
-use lib.Dec.{eqb}
+use lib.Dec.{eqb, ltb}
 use Rattle.model.specs.Common.{let-some, is-none, first-some, any, eq-numbers}
-use Rattle.model.specs.Records.{Name, ScopeKind, Scope, TypeExpr, DefinitionKind, Definition, Module, Index}
+use Rattle.model.specs.Records.{Name, ScopeKind, Scope, TypeExpr, DefinitionKind, Definition, ExpressionInfo, Module, Index}
 use Rattle.model.specs.Lookups.{
   module-at,
   scope-at,
@@ -31,19 +31,24 @@ use Rattle.model.specs.Lookups.{
   named-and-visible,
   latest-visible-by-name,
   resolve-name-at-position,
+  covers,
+  span,
+  covers-shorter,
+  covers-shortest,
+  expression-at-position,
   is-function,
   among,
   function-around,
   first-function-around,
 }
-use Rattle.model.specs.Links.{module-name, scope-in, type-in, definition-in, link, definition-expressions, expression-definitions, expression-expressions}
+use Rattle.model.specs.Links.{module-name, scope-in, type-in, definition-in, expression-in, link, definition-expressions, expression-definitions, expression-expressions}
 use Rattle.model.specs.WellFormed.{Present, LinksLead, WellFormed}
 use Rattle.model.proofs.Tests.{bool-same, and-left, and-right, eqb-sound, none≢some, some-injective}
-use Rattle.model.proofs.Search.{passes, passes-some, some-passes}
+use Rattle.model.proofs.Search.{passes, passes-some, some-passes, any-same}
 use Rattle.resolution.specs.Asked.{Asked}
-use Rattle.resolution.specs.Inside.{Body, IsBody, Inside, body-scope, below, OutsideScope, OutsideDefinition, OutsideExpression, OutsideType, NothingLinksInside}
+use Rattle.resolution.specs.Inside.{Body, IsBody, Inside, body-scope, below, OutsideScope, OutsideDefinition, OutsideExpression, OutsideType, NothingLinksInside, NotCoveredInside}
 use Rattle.resolution.specs.Secrecy.{Supposed}
-use Rattle.resolution.proofs.Found.{Found, neither, both, found-by, found-or-else}
+use Rattle.resolution.proofs.Found.{Found, neither, both, found-by, found-or-else, Both, nor, and}
 use Rattle.resolution.proofs.FoundBySearch.{first-found, last-found}
 
 -- ------------------------------------------------------------------ options
@@ -170,6 +175,24 @@ module _ (A B : Index) (a b : Body) (q : Asked) (hidden : Hidden A B a b q) wher
   sides-of m (left, e) =
       let (right, e′) = module-found B m (λ the-module. some (the-module .name)) (hidden .supposed .agree .first-stands .modules m (left .name) (in-module e (λ the-module. some (the-module .name)))) in
       record { left = left; right = right; left-found = e; right-found = e′ }
+
+  -- a module that the one lacks, the other lacks
+  pub modules-both : (m : ℕ) → Both (λ left right. (module-at A m ≡ some left) × (module-at B m ≡ some right)) (module-at A m) (module-at B m)
+  modules-both m = go (module-at A m) (module-at B m) refl refl
+    where
+      names : Module → Option Name
+      names the-module = some (the-module .name)
+
+      go : (o o′ : Option Module) → module-at A m ≡ o → module-at B m ≡ o′
+          → Both (λ left right. (o ≡ some left) × (o′ ≡ some right)) o o′
+      go none none e e′ = nor
+      go (some left) (some right) e e′ = and left right (refl, refl)
+      go (some left) none e e′ =
+          let (right, h) = module-found B m names (hidden .supposed .agree .first-stands .modules m (left .name) (in-module e names)) in
+          absurd (none≢some (sym e′ ∙ h))
+      go none (some right) e e′ =
+          let (left, h) = module-found A m names (hidden .supposed .agree .second-stands .modules m (right .name) (in-module e′ names)) in
+          absurd (none≢some (sym e ∙ h))
 
   module _ (m : ℕ) (sides : Sides A B m) where
     -- ---------------------------------------------------------------- records
@@ -347,6 +370,71 @@ module _ (A B : Index) (a b : Body) (q : Asked) (hidden : Hidden A B a b q) wher
         (resolve-name-at-position (sides .right) name s start end)
     unfolding resolve-name-at-position
     name-at-position-found name start end outside = chain-found (chain-same outside) (λ s o. latest-visible-found name start end s o)
+
+    -- ---------------------------------------------------------------- the expression at a byte
+
+    -- two tests that pass at outside expressions only, and there alike
+    expression-passes-same : (test test′ : ExpressionInfo → Bool)
+        → ((e : ℕ) (x : ExpressionInfo) → expression-in A m e ≡ some x → test x ≡ true → Inside A a m (x .scope) → ⊥)
+        → ((e : ℕ) (x : ExpressionInfo) → expression-in B m e ≡ some x → test′ x ≡ true → Inside B b m (x .scope) → ⊥)
+        → ((e : ℕ) (outside : OutsideExpression A a m e) → test (outside .expression) ≡ test′ (outside .expression))
+        → (e : ℕ) → passes test (sides .left .expressions) e ≡ passes test′ (sides .right .expressions) e
+    expression-passes-same test test′ in-A in-B same e =
+        bool-same
+        (passes test (sides .left .expressions) e)
+        (passes test′ (sides .right .expressions) e)
+        (λ h. to-right (passes-some (expression-at (sides .left) e) test h))
+        (λ h. to-left (passes-some (expression-at (sides .right) e) test′ h))
+      where
+        to-right : (x : ExpressionInfo) × (expression-at (sides .left) e ≡ some x) × (test x ≡ true) → passes test′ (sides .right .expressions) e ≡ true
+        to-right (x, h, t) =
+            let h′ : expression-in A m e ≡ some x = in-module (sides .left-found) (λ the-module. expression-at the-module e) ∙ h in
+            let outside : OutsideExpression A a m e = record { expression = x; found = h′; not-inside = in-A e x h′ t } in
+            some-passes test′ (right-expression outside) (sym (same e outside) ∙ t)
+
+        to-left : (x : ExpressionInfo) × (expression-at (sides .right) e ≡ some x) × (test′ x ≡ true) → passes test (sides .left .expressions) e ≡ true
+        to-left (x, h, t) =
+            let h′ : expression-in B m e ≡ some x = in-module (sides .right-found) (λ the-module. expression-at the-module e) ∙ h in
+            let stands = hidden .supposed .agree .second-stands .expressions m e (record { expression = x; found = h′; not-inside = in-B e x h′ t }) in
+            let outside : OutsideExpression A a m e = record { expression = x; found = stands .0; not-inside = stands .1 } in
+            some-passes test (left-expression outside) (same e outside ∙ t)
+
+    expression-passes-outside : (test : ExpressionInfo → Bool)
+        → ((e : ℕ) (x : ExpressionInfo) → expression-in A m e ≡ some x → test x ≡ true → Inside A a m (x .scope) → ⊥)
+        → (e : ℕ) → passes test (sides .left .expressions) e ≡ true → OutsideExpression A a m e
+    expression-passes-outside test in-A e h =
+        let (x, h′, t) = passes-some (expression-at (sides .left) e) test h in
+        let h″ : expression-in A m e ≡ some x = in-module (sides .left-found) (λ the-module. expression-at the-module e) ∙ h′ in
+        record { expression = x; found = h″; not-inside = in-A e x h″ t }
+
+    pub at-position-found : (position : ℕ) → NotCoveredInside A a m position → NotCoveredInside B b m position
+        → Found (OutsideExpression A a m) (expression-at-position (sides .left) position) (expression-at-position (sides .right) position)
+    unfolding expression-at-position covers-shortest covers-shorter
+    at-position-found position not-A not-B =
+        last-found (OutsideExpression A a m) (test (sides .left)) (test (sides .right)) (sides .left .expressions) (sides .right .expressions)
+        (expression-passes-same (test (sides .left)) (test (sides .right)) (in-A (sides .left)) (in-B (sides .right))
+        (λ e o. ap (λ found. covers position (o .expression) && not found) (shorter-same (span (o .expression)))))
+        (expression-passes-outside (test (sides .left)) (in-A (sides .left)))
+      where
+        shorter : ℕ → ExpressionInfo → Bool
+        shorter than y = covers position y && ltb (span y) than
+
+        test : Module → ExpressionInfo → Bool
+        test the-module x = covers position x && not (any (shorter (span x)) (the-module .expressions))
+
+        in-A : (the-module : Module) (e : ℕ) (x : ExpressionInfo) → expression-in A m e ≡ some x → test the-module x ≡ true → Inside A a m (x .scope) → ⊥
+        in-A the-module e x h t = not-A e x h (and-left (covers position x) _ t)
+
+        in-B : (the-module : Module) (e : ℕ) (x : ExpressionInfo) → expression-in B m e ≡ some x → test the-module x ≡ true → Inside B b m (x .scope) → ⊥
+        in-B the-module e x h t = not-B e x h (and-left (covers position x) _ t)
+
+        shorter-same : (than : ℕ) → any (shorter than) (sides .left .expressions) ≡ any (shorter than) (sides .right .expressions)
+        shorter-same than =
+            any-same (shorter than) (shorter than) (sides .left .expressions) (sides .right .expressions)
+            (expression-passes-same (shorter than) (shorter than)
+            (λ e x h t. not-A e x h (and-left (covers position x) _ t))
+            (λ e x h t. not-B e x h (and-left (covers position x) _ t))
+            (λ e o. refl))
 
     -- ---------------------------------------------------------------- the function of a `return`
 

@@ -66,10 +66,12 @@ use Rattle.resolution.specs.TypeResolution.{
   program,
   expression-in-context,
   says-type,
+  says-at,
+  at-program,
   asked-program,
 }
-use Rattle.resolution.specs.Inside.{Body, OutsideScope, OutsideDefinition, OutsideExpression, definition-names, expression-names, type-names, question-names, AboutOutside}
-use Rattle.resolution.proofs.Found.{Found, neither, both, found-self, found-by, found-link, Same, same-done, same-refuse, same-look, same-bind, same-asked, same-entered, same-read, same-let-some, same-each, same-if, same-ifs, Each, each-two}
+use Rattle.resolution.specs.Inside.{Body, OutsideScope, OutsideDefinition, OutsideExpression, definition-names, expression-names, type-names, question-names, NotCoveredInside, AboutOutside}
+use Rattle.resolution.proofs.Found.{Found, neither, both, found-self, found-by, found-link, Same, same-done, same-refuse, same-look, same-bind, same-asked, same-entered, same-read, same-let-some, same-each, same-both, same-if, same-ifs, Each, each-two}
 use Rattle.resolution.proofs.SameLookups.{
   Hidden,
   found-two,
@@ -95,6 +97,8 @@ use Rattle.resolution.proofs.SameLookups.{
   first-function-found,
   root-found,
   module-by-name-found,
+  modules-both,
+  at-position-found,
 }
 
 -- the type of a struct's field is a link of the struct
@@ -736,10 +740,21 @@ module _ (A B : Index) (a b : Body) (q : Asked) (hidden : Hidden A B a b q) wher
   unfolding says-type
   says-type-same h = same-bind h λ t. same-done (Said.type t)
 
-  pub asked-same : (r : Asked) → q ≡ r → AboutOutside A a r → Same OutsideDemand (asked-program A r) (asked-program B r)
+  says-at-same : (m : ℕ) {found found′ : Option ℕ} → Found (OutsideExpression A a m) found found′ → Same OutsideDemand (says-at m found) (says-at m found′)
+  unfolding says-at
+  says-at-same m found = same-let-some found (same-done _) λ e outside. says-type-same (same-asked (Demand.expression m e none) outside)
+
+  at-same : (m position : ℕ) → NotCoveredInside A a m position → NotCoveredInside B b m position
+      → Same OutsideDemand (at-program A m position) (at-program B m position)
+  unfolding at-program
+  at-same m position not-A not-B =
+      same-both (modules-both A B a b q hidden m) (same-done _) λ left right here.
+      says-at-same m (at-position-found A B a b q hidden m (sides-from here) position not-A not-B)
+
+  pub asked-same : (r : Asked) → q ≡ r → AboutOutside A a r → AboutOutside B b r → Same OutsideDemand (asked-program A r) (asked-program B r)
   unfolding asked-program asked-module asked-types
-  asked-same (Asked.expr m e none) is-q about = says-type-same (same-asked (Demand.expression m e none) about)
-  asked-same (Asked.expr m e (some t)) is-q about =
+  asked-same (Asked.expr m e none) is-q about about-B = says-type-same (same-asked (Demand.expression m e none) about)
+  asked-same (Asked.expr m e (some t)) is-q about about-B =
       says-type-same (in-context-same m e t (about .0) (asked-type m t (named-module-of is-q) (named-type-of is-q) (about .1)))
     where
       named-module-of : q ≡ Asked.expr m e (some t) → m ≡ asked-module q
@@ -747,8 +762,9 @@ module _ (A B : Index) (a b : Body) (q : Asked) (hidden : Hidden A B a b q) wher
 
       named-type-of : q ≡ Asked.expr m e (some t) → List·Memᴰ t (asked-types q)
       named-type-of h = subst (λ x. List·Memᴰ t (asked-types x)) (sym h) (List·Memᴰ·head refl)
-  asked-same (Asked.def m d) is-q about = says-type-same (same-asked (Demand.definition m d) about)
-  asked-same (Asked.type m t s) is-q about =
+  asked-same (Asked.def m d) is-q about about-B = says-type-same (same-asked (Demand.definition m d) about)
+  asked-same (Asked.at m position) is-q about about-B = at-same m position about about-B
+  asked-same (Asked.type m t s) is-q about about-B =
       says-type-same (same-asked (Demand.type m t s) (asked-type m t (named-module-of is-q) (named-type-of is-q) (about .0), about .1))
     where
       named-module-of : q ≡ Asked.type m t s → m ≡ asked-module q

@@ -48,7 +48,7 @@ module _ (A B : Index) (a b : Body) (q : Asked) (hidden : Hidden A B a b q) wher
   resolve-same =
       run-same (demand max-open-demands A []) (demand max-open-demands B [])
       (λ d outside table. demand-same max-open-demands [] d outside table)
-      (asked-same A B a b q hidden q refl (hidden .supposed .first-about))
+      (asked-same A B a b q hidden q refl (hidden .supposed .first-about) (hidden .supposed .second-about))
       first-table
 
   line-same : asked-line A q ≡ asked-line B q

@@ -93,8 +93,9 @@ unfoldable pub asked-lead : Asked → Text
 asked-lead (Asked.expr m e context) = lead-of (bytes "expr") (decimal m) (decimal e)
 asked-lead (Asked.def m d) = lead-of (bytes "def") (decimal m) (decimal d)
 asked-lead (Asked.type m t s) = lead-of (bytes "type") (decimal m) (decimal t)
+asked-lead (Asked.at m position) = lead-of (bytes "at") (decimal m) (decimal position)
 
--- "then `type` and the text, or `refused` and the number", with the LF
+-- "then `type` and the text, or `refused` and the number", or a word, with the LF
 unfoldable pub verdict-fields : Verdict → Text
 verdict-fields (Verdict.typed text) = bytes "type\t" ++ (text ++ bytes "\n")
 verdict-fields (Verdict.worded word) = word ++ bytes "\n"

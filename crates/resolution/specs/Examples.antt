@@ -74,6 +74,22 @@ pub more-printed : Printed more
 unfolding resolves more
 more-printed = refl
 
+-- ------------------------------------------------------------------ `at`
+
+unfoldable pub hovers : List Row
+hovers =
+    -- the whole case: x, the bare number, their sum; behind the last byte, before the first, in an absent module
+    row "index→1\nM→main\nS→-→module\nS→0→function\nT→u32\nD→0→f→3→4→0→30→fn→0→x→0\nD→1→x→5→6→5→11→param→0\nE→1→24→25→-→1→plain→-→-→ident→x\nE→1→20→21→-→-→plain→-→-→lit→-\nE→1→20→25→-→-→plain→-→-→bin→+→1→0\nQ→at→0→24\nQ→at→0→20\nQ→at→0→22\nQ→at→0→25\nQ→at→0→19\nQ→at→1→20\nQ→at→65535→4294967295\n" "at→0→24→type→u32\nat→0→20→type→felt\nat→0→22→type→u32\nat→0→25→none\nat→0→19→none\nat→1→20→none\nat→65535→4294967295→none\n"
+    -- of equally short ones the highest number; a longer one with a higher number is not taken
+    ∷ row "index→1\nM→m\nS→-→module\nE→0→4→6→-→-→plain→-→-→bool\nE→0→5→7→-→-→plain→-→-→lit→-\nE→0→0→9→-→-→plain→-→-→lit→u32\nQ→at→0→4\nQ→at→0→5\nQ→at→0→8\n" "at→0→4→type→bool\nat→0→5→type→felt\nat→0→8→type→u32\n"
+    -- an empty span, and one that ends before it starts, cover nothing; 6; the origin counts, as for `expr` without context
+    ∷ row "index→1\nM→m\nS→-→module\nE→0→3→3→-→-→plain→-→-→bool\nE→0→8→2→-→-→plain→-→-→bool\nE→0→5→6→-→-→plain→-→-→un→!→-\nE→0→7→8→-→-→assign→4→-→lit→-\nE→0→9→10→-→-→plain→-→-→lit→u32\nQ→at→0→3\nQ→at→0→4\nQ→at→0→5\nQ→at→0→7\n" "at→0→3→none\nat→0→4→none\nat→0→5→refused→6\nat→0→7→type→u32\n"
+    ∷ []
+
+pub hovers-printed : Printed hovers
+unfolding resolves hovers
+hovers-printed = refl
+
 -- ------------------------------------------------------------------ one line by its question's number and its own
 
 -- the line, what the answer buffer then holds of it, and the numbers of a refused file

@@ -1,9 +1,11 @@
--- Inside and outside of a function's body (document 01, "Inside a function"). Assumes nothing.
+-- Inside and outside of a function's body (document 01, "Inside a function"; of `at`, the change request that adds it). Assumes nothing.
 use Prim.Native.Nat.{ℕ}
 use mathlib.Core.Path.{_≡_}
+use mathlib.Core.Bool.{true}
 use mathlib.Core.List.{List·Memᴰ}
 use mathlib.Core.Option.{none, some}
 use Rattle.model.specs.Records.{ScopeKind, Scope, TypeExpr, Definition, ExpressionInfo, Index}
+use Rattle.model.specs.Lookups.{covers}
 use Rattle.model.specs.Links.{
   scope-in,
   type-in,
@@ -67,9 +69,16 @@ module _ (index : Index) (body : Body) where
     pub expression-to-expression : (m e f : ℕ) (outside : OutsideExpression m e) → List·Memᴰ f (expression-expressions (outside .expression))
         → (expression : ExpressionInfo) → expression-in index m f ≡ some expression → Inside m (expression .scope) → ⊥
 
-  -- "A question is about the outside if all it names are outside records, present" in the index
+  -- of `at`, in the change request's words: "only where every expression covering that byte lies outside and no inside span of either index covers it"
+  abbrev pub NotCoveredInside : ℕ → ℕ → Type 0
+  NotCoveredInside m position =
+      (e : ℕ) (expression : ExpressionInfo) → expression-in index m e ≡ some expression → covers position expression ≡ true
+      → Inside m (expression .scope) → ⊥
+
+  -- "A question is about the outside if all it names are outside records, present" in the index; of a byte `NotCoveredInside`, and its module need not be there
   abbrev pub AboutOutside : Asked → Type 0
   AboutOutside (Asked.expr m e none) = OutsideExpression m e
   AboutOutside (Asked.expr m e (some t)) = OutsideExpression m e × Present (type-in index m t)
   AboutOutside (Asked.def m d) = OutsideDefinition m d
   AboutOutside (Asked.type m t s) = Present (type-in index m t) × OutsideScope m s
+  AboutOutside (Asked.at m position) = NotCoveredInside m position

@@ -5,6 +5,7 @@ use mathlib.Core.List.{List, [], _∷_}
 use mathlib.Core.Option.{Option, none, some}
 use lib.Dec.{eqb}
 use lib.ListN.{length, getElem?}
+use Rattle.model.specs.Common.{Text, bytes}
 use Rattle.model.specs.Records.{Name, TypeExpr, DefinitionKind, Origin, UnaryOp, BinaryOp, Expression, ExpressionInfo, Module, Index}
 use Rattle.model.specs.Lookups.{
   module-at,
@@ -18,6 +19,7 @@ use Rattle.model.specs.Lookups.{
   latest-definition-index-by-name-in-chain,
   resolve-name-at-position,
   definition-for-identifier-expr,
+  expression-at-position,
   first-function-around,
 }
 use Rattle.model.specs.Links.{field-types}
@@ -452,9 +454,26 @@ says-type p = do
   t ← p
   done (Said.type t)
 
--- "An absent module, expression or definition in a question gives `error`"
+-- the line says `none`
+abbrev pub none-word : Text
+none-word = bytes "none"
+
+abbrev pub none-said : Said
+none-said = Said.word none-word
+
+-- the change request of `at`: "`none` when no expression covers the byte or the module is absent. The chosen expression is typed as by `expr` without context"
+unfoldable pub says-at : ℕ → Option ℕ → Program Said
+says-at m found = let-some found (done none-said) λ e. says-type (expression-semantic-type m e none)
+
+unfoldable pub at-program : Index → ℕ → ℕ → Program Said
+at-program index m position =
+    let-some (module-at index m) (done none-said) λ the-module.
+    says-at m (expression-at-position the-module position)
+
+-- "An absent module, expression or definition in a question gives `error`"; at a byte it gives `none`
 unfoldable pub asked-program : Index → Asked → Program Said
 asked-program index (Asked.expr m e none) = says-type (expression-semantic-type m e none)
 asked-program index (Asked.expr m e (some t)) = says-type (expression-in-context index m e t)
 asked-program index (Asked.def m d) = says-type (definition-semantic-type m d)
 asked-program index (Asked.type m t s) = says-type (resolve-ast-type m t s)
+asked-program index (Asked.at m position) = at-program index m position

@@ -8,7 +8,8 @@ use lib.Seq.{take-at}
 use Rattle.model.specs.Common.{Text}
 use Rattle.resolution.specs.Resolve.{refusal-line}
 use Rattle.type_text.proofs.Writing.{wrote-take}
-use Rattle.answers.specs.Meaning.{put-first, Lines, lines-from, answers-of, lines-out}
+use Rattle.line_text.specs.Lines.{put-first}
+use Rattle.answers.specs.Meaning.{Lines, lines-from, answers-of, lines-out}
 use Rattle.answers.specs.Promises.{Buffers, AnsweredFrom}
 use Rattle.answers.specs.Whole.{Calls}
 use Rattle.answers.specs.declared.LinesAnswer.{LinesAnswer}

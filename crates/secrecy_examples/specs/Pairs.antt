@@ -1,10 +1,11 @@
 -- The premises of demand 3 are met: pairs of files as text, each with a body of its own, and questions about the outside at a place in each. By the
 -- theorem each question has the same line in both files; what is printed stands beside it, by computation.
---   `plain`: one body returns a number, the other defines a variable; a question of each kind.
+--   `plain`: one body returns a number, the other defines a variable; a question each of `expr`, `def` and `type`.
 --   `deep`: bodies with scopes nested three deep and four deep, over two modules, with names of their own that are also outside.
 --   `between`: records inside stand between those outside by number: scopes, T, definitions and expressions.
 --   `moved`: the bodies stand in different modules, under different numbers.
 --   `ring`: the line that both have in common is a refusal.
+--   `byte`: bytes outside, where expressions inside end or are empty.
 -- Last, what the tests refuse: files that lack a premise or whose lists of scopes and T are wrong, questions that are not about the outside or name a
 -- T that is not listed. (Two files that differ outside have no proof of `same`; that is not shown.) Assumes nothing.
 use Prim.Native.Nat.{ℕ}
@@ -45,7 +46,7 @@ plain-agreeing : Agreeing plain
 unfolding loads tests index-in file-test plain one-file other-file
 plain-agreeing = record { first-test = refl; second-test = refl; same = refl }
 
--- one question of each kind: c at 0 and 3, its value with a context at 1 and 2, felt at 2 and 1
+-- a question each of `def`, `expr` and `type`: c at 0 and 3, its value with a context at 1 and 2, felt at 2 and 1
 pub c-same : SameLine (tabs one-file) (tabs other-file) 0 3 (Question.def 0 1) (Asked.def 0 1)
 unfolding loads tests index-in plain one-file other-file
 c-same = pair-same plain (Question.def 0 1) (Asked.def 0 1) 0 3 plain-agreeing refl refl refl refl refl
@@ -215,6 +216,51 @@ pub ring-other-printed : resolve (tabs ring-other) ≡ tabs "def→0→3→type�
 unfolding resolves ring-other
 ring-other-printed = refl
 
+-- ------------------------------------------------------------------ a byte
+
+-- `const c = 1 + 2u32;` outside, from byte 50 on. In the body stands a number
+unfoldable pub byte-one : String
+byte-one =
+    "index→1\nM→main\nS→-→module\nS→0→function\nT→felt\nD→0→f→3→4→0→39→fn→0\nD→0→c→46→47→40→59→const→-→0\nE→0→50→58→-→-→plain→-→-→bin→+→1→2\nE→0→50→51→-→-→plain→-→-→lit→-\nE→0→54→58→-→-→plain→-→-→lit→u32\nE→1→24→25→-→-→return→-→-→lit→-\nQ→at→0→50\nQ→at→0→52\nQ→at→0→58\nQ→at→0→24\nQ→at→7→0\n"
+
+-- in the body two expressions, one of which ends where c's value begins, and one that is empty where it ends
+unfoldable pub byte-other : String
+byte-other =
+    "index→1\nM→main\nS→-→module\nS→0→function\nT→felt\nD→0→f→3→4→0→39→fn→0\nD→0→c→46→47→40→59→const→-→0\nE→0→50→58→-→-→plain→-→-→bin→+→1→2\nE→0→50→51→-→-→plain→-→-→lit→-\nE→0→54→58→-→-→plain→-→-→lit→u32\nE→1→20→50→-→-→plain→-→-→bool\nE→1→58→58→-→-→plain→-→-→bool\nQ→at→7→0\nQ→at→0→58\nQ→at→0→52\nQ→at→0→24\nQ→at→0→50\n"
+
+unfoldable pub byte : Pair
+byte = record { first-file = byte-one; second-file = byte-other; first-body = body 0 1 (1 ∷ []); second-body = body 0 1 (1 ∷ []); types = (0, 0) ∷ [] }
+
+byte-agreeing : Agreeing byte
+unfolding loads tests index-in file-test byte byte-one byte-other
+byte-agreeing = record { first-test = refl; second-test = refl; same = refl }
+
+-- the number, the sum, behind the last byte, and in a module that is not there
+pub byte-number-same : SameLine (tabs byte-one) (tabs byte-other) 0 4 (Question.at 0 50) (Asked.at 0 50)
+unfolding loads tests index-in byte byte-one byte-other
+byte-number-same = pair-same byte (Question.at 0 50) (Asked.at 0 50) 0 4 byte-agreeing refl refl refl refl refl
+
+pub byte-sum-same : SameLine (tabs byte-one) (tabs byte-other) 1 2 (Question.at 0 52) (Asked.at 0 52)
+unfolding loads tests index-in byte byte-one byte-other
+byte-sum-same = pair-same byte (Question.at 0 52) (Asked.at 0 52) 1 2 byte-agreeing refl refl refl refl refl
+
+pub byte-behind-same : SameLine (tabs byte-one) (tabs byte-other) 2 1 (Question.at 0 58) (Asked.at 0 58)
+unfolding loads tests index-in byte byte-one byte-other
+byte-behind-same = pair-same byte (Question.at 0 58) (Asked.at 0 58) 2 1 byte-agreeing refl refl refl refl refl
+
+pub byte-absent-same : SameLine (tabs byte-one) (tabs byte-other) 4 0 (Question.at 7 0) (Asked.at 7 0)
+unfolding loads tests index-in byte byte-one byte-other
+byte-absent-same = pair-same byte (Question.at 7 0) (Asked.at 7 0) 4 0 byte-agreeing refl refl refl refl refl
+
+-- byte 24 lies in the body: there the lines differ
+pub byte-one-printed : resolve (tabs byte-one) ≡ tabs "at→0→50→type→felt\nat→0→52→type→u32\nat→0→58→none\nat→0→24→type→felt\nat→7→0→none\n"
+unfolding resolves byte-one
+byte-one-printed = refl
+
+pub byte-other-printed : resolve (tabs byte-other) ≡ tabs "at→7→0→none\nat→0→58→none\nat→0→52→type→u32\nat→0→24→type→bool\nat→0→50→type→felt\n"
+unfolding resolves byte-other
+byte-other-printed = refl
+
 -- ------------------------------------------------------------------ what the test refuses
 
 pub record Refused : Type 0 where
@@ -268,7 +314,7 @@ asked-file =
 abbrev is-taken : Asked → Bool
 is-taken = asked-test (index-in asked-file) (body 0 1 (1 ∷ [])) ((0, 0) ∷ [])
 
--- about a record inside, an absent one, a scope inside, an absent module; with a T that is not listed
+-- about a record inside, an absent one, a scope inside, an absent module; with a T that is not listed; about a byte that an expression inside covers
 unfoldable pub refused-lines : List Asked
 refused-lines =
     Asked.def 0 1
@@ -280,13 +326,15 @@ refused-lines =
     ∷ Asked.type 0 1 0
     ∷ Asked.type 0 2 0
     ∷ Asked.def 1 0
+    ∷ Asked.at 0 2
     ∷ []
 
 pub lines-refused : map is-taken refused-lines ≡ map (λ q. false) refused-lines
 unfolding loads tests index-in asked-file refused-lines
 lines-refused = refl
 
--- the same of records outside passes
-pub lines-taken : map is-taken (Asked.def 0 0 ∷ Asked.expr 0 0 none ∷ Asked.expr 0 0 (some 0) ∷ Asked.type 0 0 0 ∷ []) ≡ true ∷ true ∷ true ∷ true ∷ []
+-- the same of records outside passes, and of a byte that no expression inside covers, in an absent module too
+pub lines-taken : map is-taken (Asked.def 0 0 ∷ Asked.expr 0 0 none ∷ Asked.expr 0 0 (some 0) ∷ Asked.type 0 0 0 ∷ Asked.at 0 0 ∷ Asked.at 0 3 ∷ Asked.at 1 2 ∷ [])
+    ≡ true ∷ true ∷ true ∷ true ∷ true ∷ true ∷ true ∷ []
 unfolding loads tests index-in asked-file
 lines-taken = refl

@@ -3,3 +3,4 @@ pub mod Scopes
 pub mod Searches
 pub mod ByKind
 pub mod Definitions
+pub mod AtPosition

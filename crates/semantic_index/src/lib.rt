@@ -1,4 +1,4 @@
-// The name lookups of semantic_index.rs, over the record words. A module is given by its number, a name as a part of the file.
+// The name lookups of semantic_index.rs, and the expression at a byte, over the record words. A module is given by its number, a name as a part of the file.
 pub mod builtins;
 pub mod names;
 
@@ -21,16 +21,24 @@ ghost use Rattle.model.specs.Lookups.{latest-definition-index-by-name, latest-d
 ghost use Rattle.model.specs.Lookups.{expression-at, is-top-level-allowed, let-value, covered};
 ghost use Rattle.model.specs.Lookups.{in-let-initializer, in-order, visible-at, named-and-visible};
 ghost use Rattle.model.specs.Lookups.{latest-visible-by-name, resolve-name-at-position};
-ghost use Rattle.model.specs.Lookups.{definition-for-identifier-expr, is-function, first-function-around};
-ghost use Rattle.records.specs.Layout.{scope-row, definition-row, module-row, index-of};
+ghost use Rattle.model.specs.Lookups.{definition-for-identifier-expr, expression-at-position};
+ghost use Rattle.model.specs.Lookups.{is-function, first-function-around};
+ghost use Rattle.model.specs.AtPosition.{turn};
+ghost use Rattle.records.specs.Layout.{scope-row, definition-row, expression-row, module-row, index-of};
 ghost use Rattle.records.specs.Meaning.{name-of, scope-link-of, definition-link-of, expression-link-of};
 ghost use Rattle.records.specs.Meaning.{definition-of, definition-kind-of};
-ghost use Rattle.semantic_index.specs.Meaning.{module-link-of};
+ghost use Rattle.semantic_index.specs.Meaning.{module-link-of, best-of};
 
 // The number of a module, or none.
 pub enum ModuleLink {
     Absent,
     To(u32),
+}
+
+// The best so far in a run through the expressions of a module: its number and the length of its span.
+enum Best {
+    Absent,
+    Found(u32, u32),
 }
 
 // ------------------------------------------------------------------ scopes
@@ -338,6 +346,54 @@ pub fn definition_for_identifier_expr(words: &[u32], m: u32, e: ExpressionId) ->
     match records::expression_at(words, m, e) {
         FoundExpression::Absent => DefinitionLink::Absent,
         FoundExpression::Found(expression) => expression.definition,
+    }
+}
+
+// ------------------------------------------------------------------ the expression at a byte
+
+// The best with one expression more, of a module whose expressions begin at row `first`: it takes the place of the best if it covers the byte and is not longer.
+fn shortest_with(words: &[u32], first: u32, e: u32, position: u32, best: Best) -> Best
+    ensures { λ r. ⌜ ((file : List ℕ) → best-of r
+        ≡ turn position e (best-of best) (expression-row file (now (words .entry)) (first + e))) ⌝ }
+{
+    let start = records::expression_start(words, first, e);
+    if position < start {
+        return best;
+    }
+    let end = records::expression_end(words, first, e);
+    if end <= position {
+        return best;
+    }
+    let span = end - start;
+    match best {
+        Best::Absent => Best::Found(e, span),
+        Best::Found(number, least) => {
+            if least < span {
+                Best::Found(number, least)
+            } else {
+                Best::Found(e, span)
+            }
+        }
+    }
+}
+
+// The shortest expression of the module that covers the byte, of equally short ones that with the highest number.
+pub fn expression_at_position(words: &[u32], m: u32, position: u32) -> ExpressionLink
+    ensures { λ r. ⌜ ((file : List ℕ) → expression-link-of r
+        ≡ expression-at-position (module-row file (now (words .entry)) m) position) ⌝ }
+{
+    let rows = records::rows_of(words, m, records::EXPRESSION_ROWS);
+    let first = rows.first;
+    let count = rows.count;
+    let mut best = Best::Absent;
+    let mut e: u32 = 0;
+    while e < count {
+        best = shortest_with(words, first, e, position, best);
+        e += 1;
+    }
+    match best {
+        Best::Absent => ExpressionLink::Absent,
+        Best::Found(number, _) => ExpressionLink::To(ExpressionId(number)),
     }
 }
 

@@ -7,7 +7,7 @@ use mathlib.Core.List.{List}
 use mathlib.Core.Option.{Option, none, some}
 use Rattle.model.specs.Common.{let-some as from-some}
 use Rattle.model.specs.Records as model
-use Rattle.records.specs.Meaning.{type-expr-of, definition-kind-of, definition-link-of, expression-of, origin-of, info-of, names-with-types-of, type-link-of}
+use Rattle.records.specs.Meaning.{type-expr-of, definition-kind-of, definition-link-of, expression-of, origin-of, info-of, names-with-types-of}
 use Rattle.records.specs.declared.TypeExpr.{TypeExpr}
 use Rattle.records.specs.declared.DefinitionKind.{DefinitionKind}
 use Rattle.records.specs.declared.DefinitionLink.{DefinitionLink}
@@ -15,7 +15,6 @@ use Rattle.records.specs.declared.Expression.{Expression}
 use Rattle.records.specs.declared.ExpressionInfo.{ExpressionInfo}
 use Rattle.records.specs.declared.Origin.{Origin}
 use Rattle.records.specs.declared.Items.{Items}
-use Rattle.records.specs.declared.TypeLink.{TypeLink}
 use Rattle.resolution.specs.Types.{Table, Array, data-of, as-array, error}
 use Rattle.resolution.specs.Views.{numeric, numeric-context}
 use Rattle.resolution.specs.Programs.{Program, done, look, let-some, resolve-ast-type, expression-semantic-type, _>>=_}
@@ -34,8 +33,6 @@ use Rattle.resolution.specs.TableOk.{OptionBelow}
 use Rattle.resolution.proofs.SafeReads.{hint-below, array-below, row-below}
 use Rattle.model.proofs.Tests.{eqb-self, eqb-sound}
 use lib.Dec.{eqb}
-use Rattle.type_resolution.specs.declared.Asked.{Asked}
-use Rattle.type_resolution.specs.Asking.{expression-asked, typed-program}
 use Rattle.type_resolution.specs.State.{Ready, Runs, typed, linked, ignored}
 use Rattle.type_resolution.specs.Shapes.{struct-named, struct-type, signature-type, declared-type, repeat-in}
 use Rattle.type_resolution.specs.Leaves.{IsKnown, OrError, linked-by, Passed, Returned, NumericOr, StructFields, FunctionParts, HintBelow}
@@ -62,14 +59,6 @@ module _ {file words : List ℕ} {depth : ℕ} {T : List ℕ} {O : List (List �
       → Runs typed file words (node-type m the-module info context (expression-of file words v)) depth T O T′ O′ r
       → Runs typed file words (node-type m the-module info context (expression-of file words x)) depth T O T′ O′ r
   by-node m the-module info context {r = r} e a = subst⁻¹ (λ y. Runs typed file words (node-type m the-module info context (expression-of file words y)) depth T O T′ O′ r) e a
-
-  pub by-asked : (index : model.Index) {x v : Asked} {r : Resolved} → x ≡ v → Runs typed file words (typed-program index v) depth T O T′ O′ r
-      → Runs typed file words (typed-program index x) depth T O T′ O′ r
-  by-asked index {r = r} e a = subst⁻¹ (λ y. Runs typed file words (typed-program index y) depth T O T′ O′ r) e a
-
-  pub by-context : (index : model.Index) (m e : ℕ) (x v : TypeLink) {r : Resolved} → x ≡ v → Runs typed file words (expression-asked index m e (type-link-of v)) depth T O T′ O′ r
-      → Runs typed file words (expression-asked index m e (type-link-of x)) depth T O T′ O′ r
-  by-context index m e x v {r} same a = subst⁻¹ (λ y. Runs typed file words (expression-asked index m e (type-link-of y)) depth T O T′ O′ r) same a
 
   -- a struct that a lookup's answer leads to
   pub led-to : (m : ℕ) (found : DefinitionLink) (o : Option ℕ) {r : Resolved} → definition-link-of found ≡ o

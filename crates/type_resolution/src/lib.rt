@@ -31,6 +31,7 @@ use type_table::FoundSignature;
 use type_table::FoundType;
 use type_table::Resolved;
 use type_table::TypeList;
+use views::Asked;
 use views::FoundFieldType;
 use views::FoundImport;
 ghost use mathlib.Core.Path.{_≡_};
@@ -40,12 +41,13 @@ ghost use lib.ListN.{length};
 ghost use Rattle.records.specs.Layout.{index-of, module-row};
 ghost use Rattle.records.specs.Meaning.{name-of, numbers-of, links-of, names-with-types-of, type-expr-of, definition-kind-of, type-link-of, expression-link-of, definition-link-of, suffix-of, expression-of, info-of, unary-op-of, binary-op-of};
 ghost use Rattle.resolution.specs.Programs.{Demand, ask, done};
-ghost use Rattle.resolution.specs.TypeResolution.{resolve-all, infer-only, infer-arguments, infer-elements, all-same-type, array-type, type-expr-type, definition-kind-type, context-expected, node-type, new-type, unary-type, binary-type, member-type, call-type, index-type, tuple-type, tuple-index-type, expression-in-context};
+ghost use Rattle.resolution.specs.TypeResolution.{resolve-all, infer-only, infer-arguments, infer-elements, all-same-type, array-type, type-expr-type, definition-kind-type, context-expected, node-type, new-type, unary-type, binary-type, member-type, call-type, index-type, tuple-type, tuple-index-type, expression-in-context, asked-program};
 ghost use Rattle.type_table.specs.Layout.{item-count, types-of};
 ghost use Rattle.type_table.specs.Meaning.{found-type-of};
 ghost use Rattle.demands.specs.Promises.{Opens};
 ghost use Rattle.type_resolution.specs.State.{Ready, Runs, typed, linked, ignored, collected, compared, Exactly, AtMost};
-ghost use Rattle.type_resolution.specs.Asking.{typed-program};
+ghost use Rattle.views.specs.Asking.{asked-of};
+ghost use Rattle.type_resolution.specs.Asking.{says, said-type};
 ghost use Rattle.type_resolution.specs.Shapes.{struct-named, declared-type, tuple-expr-type, struct-type, signature-type, literal-in, array-literal-in, empty-array-in, repeat-in, links-behind, ShortType, ShortNode};
 ghost use Rattle.type_resolution.specs.Leaves.{TypeIn, DefinitionIn, ExpressionIn, linked-by, IsKnown, OrError, Passed, Returned, NumericOr, StructFields, FunctionParts, HintBelow};
 
@@ -59,11 +61,11 @@ pub enum Linked {
     Refused(u32),
 }
 
-// What is asked for a type: an expression's, with a context or without; a definition's; a type expression's.
-pub enum Asked {
-    Expr(u32, ExpressionId, TypeLink),
-    Def(u32, DefinitionIndex),
-    Type(u32, u32, FileScopeId),
+// What a line says: a type by its number, the word `none`, or the number of a refusal.
+pub enum Said {
+    Type(u32),
+    None,
+    Refused(u32),
 }
 
 // How many types were collected, or the number of a refusal.
@@ -1572,25 +1574,57 @@ fn rep(
 
 // ------------------------------------------------------------------ what is asked
 
-// The type that is asked for. An absent module, expression or definition gives error; a context is resolved first, in e's scope. It asks for a started table,
-// the 256 places and records within their limit (`Ready`): `answers`, its only caller, has just loaded the file.
+// A type, or why there is none, as what a line says.
+fn said_type(resolved: Resolved) -> Said
+    ensures { λ r. ⌜ r ≡ said-type resolved ⌝ }
+{
+    match resolved {
+        Resolved::Answered(t) => Said::Type(t),
+        Resolved::Refused(n) => Said::Refused(n),
+    }
+}
+
+// What the line says. An absent module, expression or definition gives error, but for a byte: there it gives `none`. A context is resolved first, in e's scope. It
+// asks for a started table, the 256 places and records within their limit (`Ready`): `answers`, its only caller, has just loaded the file.
 pub fn resolve_asked(
     file: &[u8],
     words: &[u32],
     types: &mut [u32],
     demands: &mut [Place],
     asked: Asked,
-) -> Resolved
+) -> Said
     requires { ⌜ Ready (now file) (now words) 0 (now types) (now demands) ⌝ }
-    ensures { λ r. ⌜ Runs typed (now (file .entry)) (now (words .entry)) (typed-program (index-of (now (file .entry)) (now (words .entry))) asked) 0 (now (types .entry)) (now (demands .entry)) (now (types .exit)) (now (demands .exit)) r ⌝ }
+    ensures { λ r. ⌜ Runs says (now (file .entry)) (now (words .entry)) (asked-program (index-of (now (file .entry)) (now (words .entry))) (asked-of asked)) 0 (now (types .entry)) (now (demands .entry)) (now (types .exit)) (now (demands .exit)) r ⌝ }
 {
     match asked {
         Asked::Expr(m, e, context) => match context {
-            TypeLink::Absent => expr_type(file, words, types, demands, 0, m, e, FoundType::Absent),
-            TypeLink::To(t) => asked_in(file, words, types, demands, m, e, t),
+            TypeLink::Absent => said_type(expr_type(
+                file,
+                words,
+                types,
+                demands,
+                0,
+                m,
+                e,
+                FoundType::Absent,
+            )),
+            TypeLink::To(t) => said_type(asked_in(file, words, types, demands, m, e, t)),
         },
-        Asked::Def(m, d) => def_type(file, words, types, demands, 0, m, d),
-        Asked::Type(m, t, s) => ast_type(file, words, types, demands, 0, m, t, s),
+        Asked::Def(m, d) => said_type(def_type(file, words, types, demands, 0, m, d)),
+        Asked::Type(m, t, s) => said_type(ast_type(file, words, types, demands, 0, m, t, s)),
+        Asked::At(m, position) => match views::position_expression(words, m, position) {
+            ExpressionLink::Absent => Said::None,
+            ExpressionLink::To(e) => said_type(expr_type(
+                file,
+                words,
+                types,
+                demands,
+                0,
+                m,
+                e,
+                FoundType::Absent,
+            )),
+        },
     }
 }
 

@@ -1,4 +1,5 @@
--- What the resolution functions read from the record words without asking. Definitions only.
+-- What a question asks, and what the resolution functions read from the record words without asking. Definitions only.
+pub mod Asking
 pub mod Reads
 pub mod Meaning
 pub mod Promises

@@ -13,7 +13,7 @@ use Rattle.records.specs.declared.DefinitionLink.{DefinitionLink}
 use Rattle.records.specs.declared.ExpressionLink.{ExpressionLink}
 use Rattle.records.specs.declared.BinaryOp.{BinaryOp}
 use Rattle.records.specs.declared.Expression.{Expression}
-use Rattle.views.specs.Reads.{argument-definition, field-type-expr, imported-definition, identifier-definition}
+use Rattle.views.specs.Reads.{argument-definition, field-type-expr, imported-definition, identifier-definition, position-expression}
 use Rattle.views.specs.Meaning.{found-field-type-of, found-import-of}
 use Rattle.views.specs.declared.FoundFieldType.{FoundFieldType}
 use Rattle.views.specs.declared.FoundImport.{FoundImport}
@@ -42,3 +42,6 @@ pub record ImportedDefinition (file words : List ℕ) (imported-module item : Na
 pub record IdentifierDefinition (file words : List ℕ) (m : ℕ) (definition : DefinitionLink) (s : FileScopeId) (start end : ℕ) (name : Name) (r : DefinitionLink) : Type 0 where
   pub same : definition-link-of r
       ≡ identifier-definition (module-row file words m) (definition-link-of definition) (name-of file name) (s .0) start end
+
+pub record PositionExpression (words : List ℕ) (m position : ℕ) (r : ExpressionLink) : Type 0 where
+  pub same : (file : List ℕ) → expression-link-of r ≡ position-expression (index-of file words) m position

@@ -12,6 +12,7 @@ use Rattle.model.specs.Lookups.{
   latest-definition-index-by-name,
   resolve-name-at-position,
   definition-for-identifier-expr,
+  expression-at-position,
 }
 use Rattle.resolution.specs.Views.{as-identifier, as-struct-literal, struct-field}
 
@@ -53,3 +54,8 @@ imported-definition index imported-module item =
 unfoldable pub identifier-definition : Module → Option ℕ → Name → ℕ → ℕ → ℕ → Option ℕ
 identifier-definition the-module definition name s start end =
     let-some definition (resolve-name-at-position the-module name s start end) some
+
+-- `at-program` up to its demand: the expression at a byte of a module
+unfoldable pub position-expression : Index → ℕ → ℕ → Option ℕ
+position-expression index m position =
+    let-some (module-at index m) none λ the-module. expression-at-position the-module position

@@ -1,5 +1,5 @@
-// What the resolution functions of type_resolution.rs read from the record words without asking. Any words hold some index, so every
-// function is total. A module is given by its number, a name as a part of the file.
+// What a question asks, and what the resolution functions of type_resolution.rs read from the record words without asking. Any words hold some index, so
+// every function is total. A module is given by its number, a name as a part of the file.
 use records::BinaryOp;
 use records::DefinitionIndex;
 use records::DefinitionKind;
@@ -13,6 +13,7 @@ use records::FoundExpression;
 use records::FoundTypeExpr;
 use records::Items;
 use records::Name;
+use records::Question;
 use records::ScopeLink;
 use records::Suffix;
 use records::TypeExpr;
@@ -21,14 +22,33 @@ use semantic_index::ModuleLink;
 ghost use mathlib.Core.Path.{_≡_};
 ghost use Prim.Native.Nat.{ℕ};
 ghost use mathlib.Core.List.{List};
+ghost use lib.ListN.{getElem?};
+ghost use Rattle.model.specs.Records.{Index};
+ghost use Rattle.resolution.specs.Asked.{question-asked};
 ghost use Rattle.resolution.specs.Types.{field-type};
 ghost use Rattle.resolution.specs.Compatible.{is-commutative};
 ghost use Rattle.resolution.specs.Views.{is-array-expr, operand-is-unsuffixed-literal, struct-field};
 ghost use Rattle.records.specs.Layout.{module-row};
 ghost use Rattle.records.specs.Meaning.{name-of, names-with-types-of, type-link-of, type-expr-of};
-ghost use Rattle.records.specs.Meaning.{definition-kind-of, binary-op-of};
+ghost use Rattle.records.specs.Meaning.{definition-kind-of, binary-op-of, question-of};
+ghost use Rattle.views.specs.Asking.{found-asked-of};
 ghost use Rattle.views.specs.Promises.{IsUnsuffixedLiteral, NamesArrayExpr, RightFirst, CalleeIsBuiltin};
 ghost use Rattle.views.specs.Promises.{ArgumentDefinition, FieldTypeExpr, ImportedDefinition, IdentifierDefinition};
+ghost use Rattle.views.specs.Promises.{PositionExpression};
+
+// What an answer line is about: module, expression, context; module, definition; module, T, scope; module, position.
+pub enum Asked {
+    Expr(u32, ExpressionId, TypeLink),
+    Def(u32, DefinitionIndex),
+    Type(u32, u32, FileScopeId),
+    At(u32, u32),
+}
+
+// What a question asks at a line's number.
+pub enum FoundAsked {
+    Past,
+    Found(Asked),
+}
 
 // The T of a struct literal's field and the scope of the literal, or none.
 pub enum FoundFieldType {
@@ -40,6 +60,33 @@ pub enum FoundFieldType {
 pub enum FoundImport {
     Absent,
     Found(u32, DefinitionIndex),
+}
+
+// ------------------------------------------------------------------ what a question asks
+
+// What a question asks at a number: each asks one thing, and has one line.
+pub fn asked_at(question: Question, line: u32) -> FoundAsked
+    ensures { λ r. ⌜ ((index : Index) → found-asked-of r ≡ getElem? (question-asked index (question-of question)) line) ⌝ }
+{
+    if line > 0 {
+        return FoundAsked::Past;
+    }
+    match question {
+        Question::Expr(m, e, context) => FoundAsked::Found(Asked::Expr(m, e, context)),
+        Question::Def(m, d) => FoundAsked::Found(Asked::Def(m, d)),
+        Question::Type(m, t, s) => FoundAsked::Found(Asked::Type(m, t, s)),
+        Question::At(m, position) => FoundAsked::Found(Asked::At(m, position)),
+    }
+}
+
+// The expression at a byte of a module, by its number; none too where there is no such module.
+pub fn position_expression(words: &[u32], m: u32, position: u32) -> ExpressionLink
+    ensures { λ r. ⌜ PositionExpression (now (words .entry)) m position r ⌝ }
+{
+    if !records::has_module(words, m) {
+        return ExpressionLink::Absent;
+    }
+    semantic_index::expression_at_position(words, m, position)
 }
 
 // ------------------------------------------------------------------ what a record is

@@ -116,7 +116,7 @@ pub fn find_word(field: &[u8], table: &[u8], map: &[u8; 32]) -> Found
     Found::Nothing
 }
 
-// ---- the words of each place, in the order of document 01
+// ---- the words of each place, in the order of document 01, those of change requests behind them
 
 fn line_word_at(k: usize) -> LineWord
     ensures { λ r. ⌜ r ≡ word-at line-words LineWord.Other k ⌝ }
@@ -297,6 +297,7 @@ fn question_word_at(k: usize) -> QuestionWord
         0 => QuestionWord::Expr,
         1 => QuestionWord::Def,
         2 => QuestionWord::OfType,
+        3 => QuestionWord::At,
         _ => QuestionWord::Other,
     }
 }
@@ -306,8 +307,8 @@ pub fn question_word(field: &[u8]) -> QuestionWord
 {
     match find_word(
         field,
-        b"\x04expr\0\0\0\0\x03def\0\0\0\0\0\x04type\0\0\0\0",
-        b"\0\0\0\0\0\0\0\0\0\0\0\0\0\0\0\x02\0\0\0\0\0\0\0\0\0\0\x01\0\0\0\0\0",
+        b"\x04expr\0\0\0\0\x03def\0\0\0\0\0\x04type\0\0\0\0\x02at\0\0\0\0\0\0",
+        b"\0\0\0\0\0\0\0\0\0\0\0\0\0\0\0\x02\0\0\x03\0\0\0\0\0\0\0\x01\0\0\0\0\0",
     ) {
         Found::At(k) => question_word_at(k),
         Found::Nothing => QuestionWord::Other,

@@ -1,8 +1,8 @@
--- `answers::answer_asked` meets its contract: the table starts anew, and the outcome is the definition's. Assumes nothing.
+-- `answers::answer_asked` meets its contract: the table starts anew, and what is said is the definition's. Assumes nothing.
 use mathlib.Core.Path.{refl, _∙_}
 use native.Mathlib.Omega.{arith}
 use Rattle.resolution.specs.Answer.{Verdict}
-use Rattle.answers.proofs.Asking.{starts-ready, refused-as, typed-answer, types-zero, places-zero}
+use Rattle.answers.proofs.Asking.{starts-ready, refused-as, typed-answer, none-answer, types-zero, places-zero}
 use borrow.Author.Needs.{needs}
 use Rattle.answers.proofs.answer_asked.Statement.{statement}
 use Rattle.answers.proofs.answer_asked.Tie as tie
@@ -12,23 +12,30 @@ start-requires c κs = search needs
 
 resolve-asked-requires : tie.Need-resolve-asked-requires
 resolve-asked-requires c κs =
-    let args = c .before .before .before .before .before .before .before .before .before .before .args in
+    let first = c .before .before .before .before .before .before .before .before .before .before in
+    let a = first .args in
     let start = c .before .before .before .before .start in
-    starts-ready (args .file .now) (args .words .now) (args .types .now) (start .last .0) (args .demands .now) ((c .before .before .before .before .before .before .before .before .before .before .pre)) (start .ensures)
+    starts-ready (a .file .now) (a .words .now) (a .types .now) (start .last .0) (a .demands .now) (first .pre) (start .ensures)
 
 clear-requires : tie.Need-clear-requires
 clear-requires c κs = search needs
 
-enum-known-resolved : tie.Need-enum-known-resolved
-enum-known-resolved c = search needs
+enum-known-said : tie.Need-enum-known-said
+enum-known-said c = search needs
 
 answer-typed-requires : tie.Need-answer-typed-requires
 answer-typed-requires c κs =
-    let resolve-asked = c .before .before .before .before .before .before .before .before .before .before .before .resolve-asked in
-    (resolve-asked .ensures .ready .sound, (resolve-asked .ensures .ready .ok, omega (arith, resolve-asked .ensures .grows .same-length, (c .before .before .before .before .before .before .before .before .before .before .before .before .before .before .before .before .start) .kept .0, (c .before .before .before .before .before .before .before .before .before .before .before .before .before .before .before .before .before .before .before .before .before .before .pre) .exact .types-long)))
+    let ready = c .before .before .before .before .before .before .before .before .before .before .before .resolve-asked .ensures in
+    (ready .ready .sound, (ready .ready .ok, omega (arith, ready .grows .same-length, c .before .before .before .before .before .before .before .before .before .before .before .before .before .before .before .before .start .kept .0, c .before .before .before .before .before .before .before .before .before .before .before .before .before .before .before .before .before .before .before .before .before .before .pre .exact .types-long)))
 
-enum-known-resolved-2 : tie.Need-enum-known-resolved-2
-enum-known-resolved-2 c = search needs
+enum-told : tie.Need-enum-told
+enum-told c = search needs
+
+answer-none-requires : tie.Need-answer-none-requires
+answer-none-requires c κs = omega (arith, c .before .before .before .before .before .before .before .before .before .before .resolve-asked .ensures .grows .same-length, c .before .before .before .before .before .before .before .before .before .before .before .before .before .before .before .start .kept .0, c .before .before .before .before .before .before .before .before .before .before .before .before .before .before .before .before .before .before .before .before .before .pre .exact .types-long)
+
+enum-known-said-2 : tie.Need-enum-known-said-2
+enum-known-said-2 c = search needs
 
 clear-requires-2 : tie.Need-clear-requires-2
 clear-requires-2 c κs = search needs
@@ -44,16 +51,15 @@ same-length-3 c = search needs
 
 returns : tie.Need-returns
 returns c =
-    let clear = c .before .before .before .before .before .before .before .before .before .before .before .clear in
-    let resolve-asked = c .before .before .before .before .before .before .before .before .before .before .before .before .before .before .before .before .resolve-asked in
-    let pre = c .before .before .before .before .before .before .before .before .before .before .before .before .before .before .before .before .before .before .before .before .before .before .before .before .before .before .before .pre in
+    let first = c .before .before .before .before .before .before .before .before .before .before .before .before .before .before .before .before .before .before .before .before .before .before .before .before .before .before .before in
+    let a = first .args in
+    let pre = first .pre in
     let start = c .before .before .before .before .before .before .before .before .before .before .before .before .before .before .before .before .before .before .before .before .before .start in
-    let resolved = c .before .before .before .before .before .before .before .before .resolved in
-    let answer-typed = c .before .before .before .before .answer-typed in
-    let a = (c .before .before .before .before .before .before .before .before .before .before .before .before .before .before .before .before .before .before .before .before .before .before .before .before .before .before .before .args) in
-    let q = a .asked in
-    let open-zero = clear .ensures ∙ places-zero (resolve-asked .last .1 .1 .1 .0) (resolve-asked .kept .1 .1 .1 .0 ∙ pre .exact .places-long) in
-    typed-answer (a .file .now) (a .words .now) (a .types .now) (start .last .0) (a .demands .now) pre (start .ensures) q (resolve-asked .last .1 .1 .0) (resolve-asked .last .1 .1 .1 .0) (resolve-asked .result) (resolve-asked .ensures) (resolved .given .0 .0) (resolved .given .1) (a .out .now) (answer-typed .last .1 .0) (answer-typed .last .1 .1 .1 .1 .0) (clear .last .0) (answer-typed .result) open-zero (answer-typed .ensures)
+    let resolve-asked = c .before .before .before .before .before .before .before .before .before .before .before .before .before .before .before .before .resolve-asked in
+    let open-zero = c .before .before .before .before .before .before .before .before .before .before .before .clear .ensures ∙ places-zero (resolve-asked .last .1 .1 .1 .0) (resolve-asked .kept .1 .1 .1 .0 ∙ pre .exact .places-long) in
+    let said = c .before .before .before .before .before .before .before .before .said in
+    let typed = c .before .before .before .before .answer-typed in
+    typed-answer (a .file .now) (a .words .now) (a .types .now) (start .last .0) (a .demands .now) pre (start .ensures) (a .asked) (resolve-asked .last .1 .1 .0) (resolve-asked .last .1 .1 .1 .0) (resolve-asked .result) (resolve-asked .ensures) (a .out .now) (typed .last .1 .0) (typed .last .1 .1 .1 .1 .0) (c .before .before .before .before .before .before .before .before .before .before .before .clear .last .0) (typed .result) open-zero (said .given .0 .0) (said .given .1) (typed .ensures)
 
 same-length-4 : tie.Need-same-length-4
 same-length-4 c = search needs
@@ -61,20 +67,40 @@ same-length-4 c = search needs
 same-length-5 : tie.Need-same-length-5
 same-length-5 c = search needs
 
+same-length-6 : tie.Need-same-length-6
+same-length-6 c = search needs
+
 returns-2 : tie.Need-returns-2
 returns-2 c =
-    let resolve-asked = c .before .before .before .before .before .before .before .before .before .before .before .before .before .resolve-asked in
-    let pre = c .before .before .before .before .before .before .before .before .before .before .before .before .before .before .before .before .before .before .before .before .before .before .before .before .pre in
+    let first = c .before .before .before .before .before .before .before .before .before .before .before .before .before .before .before .before .before .before .before .before .before .before .before .before .before .before in
+    let a = first .args in
+    let pre = first .pre in
+    let start = c .before .before .before .before .before .before .before .before .before .before .before .before .before .before .before .before .before .before .before .before .start in
+    let resolve-asked = c .before .before .before .before .before .before .before .before .before .before .before .before .before .before .before .resolve-asked in
+    let open-zero = c .before .before .before .before .before .before .before .before .before .before .clear .ensures ∙ places-zero (resolve-asked .last .1 .1 .1 .0) (resolve-asked .kept .1 .1 .1 .0 ∙ pre .exact .places-long) in
+    let none = c .before .before .before .before .answer-none in
+    none-answer (a .file .now) (a .words .now) (a .types .now) (start .last .0) (a .demands .now) pre (start .ensures) (a .asked) (resolve-asked .last .1 .1 .0) (resolve-asked .last .1 .1 .1 .0) (resolve-asked .result) (resolve-asked .ensures) (a .out .now) (none .last .0) (none .last .1 .1 .0) (c .before .before .before .before .before .before .before .before .before .before .clear .last .0) (none .result) open-zero (c .before .before .before .before .before .before .before .enum-told .given .1) (none .ensures)
+
+same-length-7 : tie.Need-same-length-7
+same-length-7 c = search needs
+
+same-length-8 : tie.Need-same-length-8
+same-length-8 c = search needs
+
+returns-3 : tie.Need-returns-3
+returns-3 c =
+    let first = c .before .before .before .before .before .before .before .before .before .before .before .before .before .before .before .before .before .before .before .before .before .before .before .before in
+    let a = first .args in
+    let pre = first .pre in
     let start = c .before .before .before .before .before .before .before .before .before .before .before .before .before .before .before .before .before .before .start in
-    let resolved2 = c .before .before .before .before .before .resolved2 in
-    let a = (c .before .before .before .before .before .before .before .before .before .before .before .before .before .before .before .before .before .before .before .before .before .before .before .before .args) in
-    let q = a .asked in
-    let open-zero = (c .before .before .before .before .before .before .before .before .clear) .ensures ∙ places-zero (resolve-asked .last .1 .1 .1 .0) (resolve-asked .kept .1 .1 .1 .0 ∙ pre .exact .places-long) in
+    let resolve-asked = c .before .before .before .before .before .before .before .before .before .before .before .before .before .resolve-asked in
+    let open-zero = c .before .before .before .before .before .before .before .before .clear .ensures ∙ places-zero (resolve-asked .last .1 .1 .1 .0) (resolve-asked .kept .1 .1 .1 .0 ∙ pre .exact .places-long) in
+    let said = c .before .before .before .before .before .said2 in
     record {
-      v = Verdict.refused (resolved2 .given .0 .0);
-      has = refused-as (a .file .now) (a .words .now) (a .types .now) (start .last .0) (a .demands .now) pre (start .ensures) q (resolve-asked .last .1 .1 .0) (resolve-asked .last .1 .1 .1 .0) (resolve-asked .result) (resolve-asked .ensures) (resolved2 .given .0 .0) (resolved2 .given .1);
+      v = Verdict.refused (said .given .0 .0);
+      has = refused-as (a .file .now) (a .words .now) (a .types .now) (start .last .0) (a .demands .now) pre (start .ensures) (a .asked) (resolve-asked .last .1 .1 .0) (resolve-asked .last .1 .1 .1 .0) (resolve-asked .result) (resolve-asked .ensures) (said .given .0 .0) (said .given .1);
       is = record { is = refl; same = refl };
-      types-are = (c .before .before .clear2) .ensures ∙ types-zero (resolve-asked .last .1 .1 .0) (resolve-asked .ensures .grows .same-length ∙ start .kept .0 ∙ pre .exact .types-long);
+      types-are = c .before .before .clear2 .ensures ∙ types-zero (resolve-asked .last .1 .1 .0) (resolve-asked .ensures .grows .same-length ∙ start .kept .0 ∙ pre .exact .types-long);
       demands-are = open-zero;
     }
 
@@ -85,9 +111,11 @@ answer-asked-spec =
     start-requires
     resolve-asked-requires
     clear-requires
-    enum-known-resolved
+    enum-known-said
     answer-typed-requires
-    enum-known-resolved-2
+    enum-told
+    answer-none-requires
+    enum-known-said-2
     clear-requires-2
     same-length
     same-length-2
@@ -95,4 +123,8 @@ answer-asked-spec =
     returns
     same-length-4
     same-length-5
-    returns-2)
+    same-length-6
+    returns-2
+    same-length-7
+    same-length-8
+    returns-3)

@@ -2,8 +2,7 @@
 use mathlib.Core.Path.{sym, ap, subst, _∙_}
 use Rattle.records.specs.Layout.{index-of}
 use Rattle.records.specs.Meaning.{question-of}
-use Rattle.type_resolution.specs.Asking.{asked-of}
-use Rattle.answers.specs.Meaning.{found-asked-of}
+use Rattle.views.specs.Asking.{asked-of, found-asked-of}
 use Rattle.answers.specs.Steps.{AskedAnswered}
 use Rattle.answers.proofs.Asking.{row-asked, past-step, typed-step, no-room-step, refused-step}
 use borrow.Author.Needs.{needs}
@@ -34,8 +33,8 @@ enum-told-2 c = search needs
 enum-known-refusal : tie.Need-enum-known-refusal
 enum-known-refusal c = search needs
 
-write-refused-requires : tie.Need-write-refused-requires
-write-refused-requires c κs = search needs
+answer-refused-requires : tie.Need-answer-refused-requires
+answer-refused-requires c κs = search needs
 
 returns : tie.Need-returns
 returns c =
@@ -128,8 +127,8 @@ returns-4 c =
     let demands = all .last .1 .1 .1 .0 in
     let out = all .last .1 .1 .1 .1 .1 .0 in
     let promise = AskedAnswered (a .file .now) index about (a .out .now) types demands out in
-    let write-refused = (c .before .before .write-refused) in
-    refused-step (a .file .now) index (a .number) q has (a .line) (a .types .now) (a .demands .now) (a .out .now) about asks types demands out (refusal .given .0 .0) (subst promise (refusal .given .1) (all .ensures)) (write-refused .last .1 .1 .0) (write-refused .result) (write-refused .ensures)
+    let answer-refused = (c .before .before .answer-refused) in
+    refused-step (a .file .now) index (a .number) q has (a .line) (a .types .now) (a .demands .now) (a .out .now) about asks types demands out (refusal .given .0 .0) (subst promise (refusal .given .1) (all .ensures)) (answer-refused .last .1 .1 .0) (answer-refused .result) (answer-refused .ensures)
 
 pub answer-line-spec : {M : Type 1} → statement M
 answer-line-spec =
@@ -143,7 +142,7 @@ answer-line-spec =
     enum-known-n
     enum-told-2
     enum-known-refusal
-    write-refused-requires
+    answer-refused-requires
     returns
     same-length
     same-length-2

@@ -3,8 +3,7 @@ use mathlib.Core.Path.{sym, ap, subst, _∙_}
 use lib.ListN.{replicate}
 use Rattle.records.specs.Layout.{index-of}
 use Rattle.records.specs.Meaning.{question-of, found-question-of}
-use Rattle.type_resolution.specs.Asking.{asked-of}
-use Rattle.answers.specs.Meaning.{found-asked-of}
+use Rattle.views.specs.Asking.{asked-of, found-asked-of}
 use Rattle.answers.specs.Steps.{AskedAnswered}
 use Rattle.answers.proofs.Asking.{types-zero, places-zero}
 use Rattle.answers.proofs.Entries.{lacking, past-reply, typed-reply, refused-reply, room}

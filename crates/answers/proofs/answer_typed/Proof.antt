@@ -1,9 +1,9 @@
 -- `answers::answer_typed` meets its contract: a refused or unwritten type leaves zeros. Assumes nothing.
 use mathlib.Core.Path.{refl, subst, _∙_}
-use Rattle.type_resolution.specs.Asking.{asked-of}
+use Rattle.views.specs.Asking.{asked-of}
 use Rattle.resolution.specs.Answer.{type-text, text-verdict, asked-lead}
 use Rattle.type_table.specs.Layout.{table-of}
-use Rattle.answers.specs.Steps.{TriedIs}
+use Rattle.line_text.specs.Lines.{TriedIs}
 use Rattle.answers.proofs.Asking.{types-zero}
 use borrow.Author.Needs.{needs}
 use Rattle.answers.proofs.answer_typed.Statement.{statement}

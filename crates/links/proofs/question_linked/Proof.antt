@@ -32,6 +32,9 @@ enum-known-m-2 c = search needs
 type-question-linked-requires : tie.Need-type-question-linked-requires
 type-question-linked-requires c κs = search needs
 
+enum-told-2 : tie.Need-enum-told-2
+enum-told-2 c = search needs
+
 returns : tie.Need-returns
 returns c = λ file. c .context-linked .ensures file ∙ ap (test file _) (sym (c .before .before .m .given .1)) ∙ ap (question-linked _) (c .before .before .before .before .question-row .ensures)
 
@@ -41,6 +44,10 @@ returns-2 c = λ file. ap (test file _) (sym (c .enum-told .given .1)) ∙ ap (q
 
 returns-3 : tie.Need-returns-3
 returns-3 c = λ file. c .type-question-linked .ensures file ∙ ap (test file _) (sym (c .before .before .m2 .given .1)) ∙ ap (question-linked _) (c .before .before .before .before .question-row .ensures)
+
+returns-4 : tie.Need-returns-4
+unfolding question-linked
+returns-4 c = λ file. ap (test file _) (sym (c .enum-told2 .given .1)) ∙ ap (question-linked (index-of file _)) (c .before .before .question-row .ensures)
 
 pub question-linked-spec : {M : Type 1} → statement M
 question-linked-spec =
@@ -52,6 +59,8 @@ question-linked-spec =
     enum-told
     enum-known-m-2
     type-question-linked-requires
+    enum-told-2
     returns
     returns-2
-    returns-3)
+    returns-3
+    returns-4)

@@ -21,7 +21,11 @@ returns-2 c = option-here 1 _ _ _ _ (c .match .keys2) refl
 
 returns-3 : tie.Need-returns-3
 unfolding question-by
-returns-3 c = option-last _ _ _ _ (none-below 2 _ (c .match .rest)) refl
+returns-3 c = option-here 2 _ _ _ _ (c .match .keys3) refl
+
+returns-4 : tie.Need-returns-4
+unfolding question-by
+returns-4 c = option-last _ _ _ _ (none-below 3 _ (c .match .rest)) refl
 
 pub question-of-spec : {M : Type 1} → statement M
-question-of-spec = tie.close (tie.spec type-link-requires returns returns-2 returns-3)
+question-of-spec = tie.close (tie.spec type-link-requires returns returns-2 returns-3 returns-4)

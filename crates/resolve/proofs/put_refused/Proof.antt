@@ -6,7 +6,7 @@ use Rattle.model.specs.Common.{bytes}
 use Rattle.resolution.specs.Answer.{decimal}
 use Rattle.resolution.specs.Resolve.{refusal-line}
 use Rattle.type_text.proofs.Writing.{wrote-then}
-use Rattle.answers.proofs.Lines.{ten-digits}
+use Rattle.line_text.proofs.Lines.{ten-digits}
 use borrow.Author.Needs.{needs}
 use Rattle.resolve.proofs.put_refused.Statement.{statement}
 use Rattle.resolve.proofs.put_refused.Tie as tie

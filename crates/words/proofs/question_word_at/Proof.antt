@@ -20,7 +20,11 @@ unfolding word-at
 returns-3 c = word-key question-words QuestionWord.Other _ 2 (c .match .keys3)
 
 returns-4 : tie.Need-returns-4
-returns-4 c = word-rest question-words QuestionWord.Other (c .before .args .k) (none-below 3 (c .before .args .k) (c .match .rest))
+unfolding word-at
+returns-4 c = word-key question-words QuestionWord.Other _ 3 (c .match .keys4)
+
+returns-5 : tie.Need-returns-5
+returns-5 c = word-rest question-words QuestionWord.Other (c .before .args .k) (none-below 4 (c .before .args .k) (c .match .rest))
 
 pub question-word-at-spec : {M : Type 1} → statement M
-question-word-at-spec = tie.close (tie.spec returns returns-2 returns-3 returns-4)
+question-word-at-spec = tie.close (tie.spec returns returns-2 returns-3 returns-4 returns-5)

@@ -1,4 +1,4 @@
--- `answers::write_typed` meets its contract: the text stands between the lead fields and the LF, or nothing is written. Assumes nothing.
+-- `line_text::write_typed` meets its contract: the text stands between the lead fields and the LF, or nothing is written. Assumes nothing.
 use Prim.Native.Nat.{_-_, _<_, zero-le}
 use mathlib.Core.Path.{_≡_, refl, sym, ap, subst, _∙_}
 use mathlib.Core.List.{_++_}
@@ -8,17 +8,17 @@ use borrow.Rule.Slice.PartMut.{put-same, putMid}
 use lib.ListN.{length, take, drop, length-append, length-take, length-drop}
 use lib.Seq.{length-take-le}
 use Rattle.model.specs.Common.{bytes}
-use Rattle.type_resolution.specs.Asking.{asked-of}
-use Rattle.resolution.specs.Answer.{type-text, text-verdict, asked-lead}
+use Rattle.views.specs.Asking.{asked-of}
+use Rattle.resolution.specs.Answer.{type-text, asked-lead}
 use Rattle.type_table.specs.Layout.{table-of}
 use Rattle.type_text.specs.Text.{Wrote}
 use Rattle.type_text.proofs.Writing.{wrote-then, wrote-take}
 use Rattle.type_text.proofs.Laws.{written, too-long, no-room, verdict-typed, verdict-refused}
-use Rattle.answers.specs.Steps.{LinePut, Answering, line-with}
-use Rattle.answers.proofs.Lines.{between, typed-line, typed-length, line-longer}
+use Rattle.line_text.specs.Lines.{LinePut, Answering, line-with}
+use Rattle.line_text.proofs.Lines.{between, typed-line, typed-length, line-longer}
 use borrow.Author.Needs.{needs}
-use Rattle.answers.proofs.write_typed.Statement.{statement}
-use Rattle.answers.proofs.write_typed.Tie as tie
+use Rattle.line_text.proofs.write_typed.Statement.{statement}
+use Rattle.line_text.proofs.write_typed.Tie as tie
 
 slice-aggregate-put-lead : tie.Need-slice-aggregate-put-lead
 slice-aggregate-put-lead c = search needs

@@ -1,11 +1,11 @@
--- `answers::put_lead` meets its contract: by the kind of what is asked. Assumes nothing.
+-- `line_text::put_lead` meets its contract: by the kind of what is asked. Assumes nothing.
 use mathlib.Core.Path.{sym, subst}
-use Rattle.type_resolution.specs.Asking.{asked-of}
+use Rattle.views.specs.Asking.{asked-of}
 use Rattle.resolution.specs.Answer.{asked-lead, lead-of}
-use Rattle.answers.specs.Steps.{LeadPut}
+use Rattle.line_text.specs.Lines.{LeadPut}
 use borrow.Author.Needs.{needs}
-use Rattle.answers.proofs.put_lead.Statement.{statement}
-use Rattle.answers.proofs.put_lead.Tie as tie
+use Rattle.line_text.proofs.put_lead.Statement.{statement}
+use Rattle.line_text.proofs.put_lead.Tie as tie
 
 enum-known-asked : tie.Need-enum-known-asked
 enum-known-asked c = search needs
@@ -34,6 +34,15 @@ slice-aggregate-put-fields-3 c = search needs
 put-fields-requires-3 : tie.Need-put-fields-requires-3
 put-fields-requires-3 c κs = search needs
 
+enum-known-asked-4 : tie.Need-enum-known-asked-4
+enum-known-asked-4 c = search needs
+
+slice-aggregate-put-fields-4 : tie.Need-slice-aggregate-put-fields-4
+slice-aggregate-put-fields-4 c = search needs
+
+put-fields-requires-4 : tie.Need-put-fields-requires-4
+put-fields-requires-4 c κs = search needs
+
 same-length : tie.Need-same-length
 same-length c = search needs
 
@@ -61,6 +70,15 @@ returns-3 c =
     let put-fields3 = c .before .before .put-fields3 in
     subst (λ q. LeadPut (asked-lead (asked-of q)) (((c .before .before .before .before .before .before .before .before .before .args)) .out .now) (put-fields3 .last .1 .1 .1 .0) (put-fields3 .result)) (sym (((c .before .before .before .before .before .before .asked3)) .given .1)) (put-fields3 .ensures)
 
+same-length-4 : tie.Need-same-length-4
+same-length-4 c = search needs
+
+returns-4 : tie.Need-returns-4
+unfolding asked-lead lead-of
+returns-4 c =
+    let put-fields4 = c .before .before .put-fields4 in
+    subst (λ q. LeadPut (asked-lead (asked-of q)) (((c .before .before .before .before .before .before .before .before .before .args)) .out .now) (put-fields4 .last .1 .1 .1 .0) (put-fields4 .result)) (sym (((c .before .before .before .before .before .before .asked4)) .given .1)) (put-fields4 .ensures)
+
 pub put-lead-spec : {M : Type 1} → statement M
 put-lead-spec =
     tie.close
@@ -74,9 +92,14 @@ put-lead-spec =
     enum-known-asked-3
     slice-aggregate-put-fields-3
     put-fields-requires-3
+    enum-known-asked-4
+    slice-aggregate-put-fields-4
+    put-fields-requires-4
     same-length
     returns
     same-length-2
     returns-2
     same-length-3
-    returns-3)
+    returns-3
+    same-length-4
+    returns-4)

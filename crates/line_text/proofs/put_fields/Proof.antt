@@ -1,14 +1,14 @@
--- `answers::put_fields` meets its contract: its parts one behind the other. Assumes nothing.
+-- `line_text::put_fields` meets its contract: its parts one behind the other. Assumes nothing.
 use Prim.Native.Nat.{zero-le}
 use mathlib.Core.List.{_++_}
 use native.Mathlib.Omega.{arith}
 use Rattle.model.specs.Common.{bytes}
 use Rattle.resolution.specs.Answer.{decimal}
 use Rattle.type_text.proofs.Writing.{wrote-then}
-use Rattle.answers.proofs.Lines.{ten-digits}
+use Rattle.line_text.proofs.Lines.{ten-digits}
 use borrow.Author.Needs.{needs}
-use Rattle.answers.proofs.put_fields.Statement.{statement}
-use Rattle.answers.proofs.put_fields.Tie as tie
+use Rattle.line_text.proofs.put_fields.Statement.{statement}
+use Rattle.line_text.proofs.put_fields.Tie as tie
 
 put-requires : tie.Need-put-requires
 put-requires c κs = search needs

@@ -15,8 +15,7 @@ use Rattle.type_text.specs.Text.{put-at, Wrote}
 use Rattle.type_text.proofs.Decimals.{decimal-within}
 use Rattle.type_text.proofs.Writing.{wrote-then}
 use Rattle.type_text.proofs.Laws.{Stands}
-use Rattle.answers.specs.Meaning.{put-first}
-use Rattle.answers.specs.Steps.{LinePut, line-with}
+use Rattle.line_text.specs.Lines.{put-first, LinePut, line-with}
 
 -- a number of 32 bits has at most ten digits
 pub ten-digits : (n : ℕ) → n < 4294967296 → length (decimal n) ≤ 10
@@ -79,11 +78,6 @@ pub typed-line : (lead text : Text) → ((lead ++ bytes "type\t") ++ text) ++ by
 unfolding verdict-fields
 typed-line lead text =
     append-assoc (lead ++ bytes "type\t") text (bytes "\n") ∙ append-assoc lead (bytes "type\t") (text ++ bytes "\n")
-
--- the parts of a refused line
-pub refused-line : (lead : Text) (n : ℕ) → lead ++ (bytes "refused\t" ++ (decimal n ++ bytes "\n")) ≡ line-with lead (Verdict.refused n)
-unfolding verdict-fields
-refused-line lead n = refl
 
 -- the line of a type's text, or of refusal 10, is longer than the lead fields and `type` with its tab
 pub line-longer : (lead text : Text) → length lead + 5 < length (line-with lead (text-verdict text))

@@ -1,0 +1,2 @@
+-- Laws of lines that are written.
+pub mod Lines

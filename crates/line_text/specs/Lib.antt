@@ -1,0 +1,2 @@
+-- What a line that is written holds, byte for byte. Definitions only.
+pub mod Lines
