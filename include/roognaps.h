@@ -36,9 +36,9 @@ extern "C" {
 
 /* The version of this header and of the library that it is for (CHANGELOG.md). */
 #define ROOGNAPS_VERSION_MAJOR 0
-#define ROOGNAPS_VERSION_MINOR 3
+#define ROOGNAPS_VERSION_MINOR 4
 #define ROOGNAPS_VERSION_PATCH 0
-#define ROOGNAPS_VERSION "0.3.0"
+#define ROOGNAPS_VERSION "0.4.0"
 
 /* The lengths that the buffers need. Shorter ones are refusal 1; in longer ones the rest stays. */
 #define ROOGNAPS_RECORD_WORDS 16384 /* uint32_t */
@@ -138,10 +138,13 @@ roognaps_load_result roognaps_load(const uint8_t *file, size_t file_bytes, uint3
 
 /*
  * Loads a file and answers a line of the question of a number (the Q lines, from 0): the line of a
- * number, from 0. Every question of index 1 has one line.
+ * number, from 0. Every question of index 1 has one line. Its last field is the text of a type; or
+ * `none`, of the question `at` where no expression covers the byte or the file has no such module.
  *   ROOGNAPS_ANSWER_LINE          with the bytes of the line, LF included, at the start of `out`; the bytes
  *                                 behind it are as they were. The records hold the index (docs/LAYOUT.md),
- *                                 the types the table of types that the line made, the places are zero
+ *                                 the types the table of types that the line made, the places are zero.
+ *                                 After `none` the types hold the six that every line begins with: felt,
+ *                                 bool, u32, unknown, error, ()
  *   ROOGNAPS_ANSWER_REFUSED       with the refusal of the line, 6 to 10, and the bytes that stand for it at
  *                                 the start of `out`, 0 today: `out` is as it was. The records hold the
  *                                 index, types and places are zero

@@ -38,7 +38,7 @@ else
 fi
 if at_hand cargo clippy; then
     # The crates over the static library are looked at without it.
-    step lint env ROOGNAPS_UNLINKED=1 cargo clippy --offline --workspace --features roognaps/export,fuzz/libfuzzer -- -D warnings
+    step lint env ROOGNAPS_UNLINKED=1 cargo clippy --offline --workspace --features roognaps/export,fuzz/libfuzzer,typetool/library -- -D warnings
     step "lint of tests" cargo clippy --offline --all-targets -- -D warnings
     # As on a machine that doesn't have the originals: what is left must be whole by itself.
     step "lint without the originals" env ROOGNAPS_UNLINKED=1 CAIRO_M_SRC=/nonexistent CARGO_TARGET_DIR=target/alone \

@@ -1,7 +1,7 @@
 #!/usr/bin/env python3
 """Builds the static library and runs what stands on it: the header in C++, the example in C, the vectors in C (under valgrind where it is at
-hand) and with planted faults, the Rust crate's tests, documentation and examples, what docs/USING.md shows, and the fuzz target; and the tests
-of the lookups, on the library that is for the benchmark alone.
+hand) and with planted faults, the Rust crate's tests, documentation and examples, `typetool hover`, what docs/USING.md shows, and the fuzz target;
+and the tests of the lookups, on the library that is for the benchmark alone.
 
 usage: tools/library_runs.py
 
@@ -13,6 +13,7 @@ What the machine lacks (rt, objdump, objcopy, cc, c++, valgrind, cargo, the orig
 
 import os
 import re
+import shlex
 import shutil
 import subprocess
 import sys
@@ -253,13 +254,14 @@ def vectors_in_c(folder):
 
 
 def few_vectors():
-    """The path of a file with a few vectors: answers of one part and of more, refused lines and files."""
+    """The path of a file with a few vectors: answers of one part and of more, refused lines and files, a line `none`."""
     accepted, malformed = [vector for name in VECTOR_FILES[:2] for vector in vectors(name)], list(vectors(VECTOR_FILES[2]))
     long = next(vector for vector in accepted if len(vector[2]) > 4160)
     ring = next(vector for vector in accepted if vector[2].endswith(b"\trefused\t7\n"))
+    none = next(vector for vector in accepted if vector[2].endswith(b"\tnone\n"))
     path = os.path.join(MADE, "few.txt")
     with open(path, "wb") as out:
-        for name, file, answer in [accepted[0], ring, long, malformed[0]]:
+        for name, file, answer in [accepted[0], ring, long, none, malformed[0]]:
             out.write(b"vector %s %d %d\n" % (name.encode(), len(file), len(answer)) + file + answer)
     return path
 
@@ -388,10 +390,11 @@ def with_originals(folder):
         say("`typetool self-check` failed")
         return False
     if not reachable:
-        say("the original sources aren't reachable; the crate's module `export` and what docs/USING.md shows of its program, in Rust and in C, are left out")
+        say("the original sources aren't reachable; the crate's module `export`, `typetool hover` and what docs/USING.md shows of its program are left out")
         return True
     documents = documented("--features", "export")
-    return documents and shown_index() and shown_types() and shown_rust() and shown_c(folder)
+    shown_files = documents and shown_index() and shown_questions()
+    return shown_files and shown_types() and shown_rust() and shown_c(folder) and hover()
 
 
 def shown_index():
@@ -404,6 +407,28 @@ def shown_index():
     with open(os.path.join(ROOT, "target", "total.idx"), "w", encoding="ascii") as file:
         file.write(index)
     return is_as_shown("the exporter", index, shown("cat target/total.idx"))
+
+
+def tool_run(command, *features):
+    """What a command of docs/USING.md prints, with the tool as cargo builds it."""
+    tool = shlex.join(["cargo", "run", "--offline", "--quiet", "--manifest-path", os.path.join(ROOT, "rust", "Cargo.toml"), *features, "--"])
+    return run(["sh", "-c", re.sub(r"\S+/typetool", lambda _: tool, command)], cwd=ROOT).stdout
+
+
+def shown_questions():
+    """target/hover.idx, by the command of docs/USING.md that makes it, and its questions."""
+    for command in [command for command, _ in commands() if command.endswith("> target/hover.idx")]:
+        print(tool_run(command), end="")
+    asked = "grep '^Q' target/hover.idx"
+    return is_as_shown("`typetool export --at`", run(["sh", "-c", asked], cwd=ROOT).stdout, shown(asked))
+
+
+def hover():
+    """`typetool hover` with the library: its tests, and its commands of docs/USING.md."""
+    running = [(command, owed) for command, owed in commands() if "typetool hover" in command]
+    if not running or not tests("typetool", "--features", "library", "--test", "hover"):
+        return False
+    return all([is_as_shown(f"`{command}`", tool_run(command, "--features", "library"), owed) for command, owed in running])
 
 
 def shown_types():
@@ -426,14 +451,21 @@ def shown_rust():
     return printed is not None and is_as_shown("the program", printed, shown_below("What it prints for the file above:"))
 
 
-def shown_call():
-    """The call that docs/USING.md shows of the example in C stands in it, but for spaces."""
-    call = shown_below("What it does is a call in a loop that begins with line 0 of question 0:").split()
-    with open(os.path.join(ROOT, "examples", "c", "answer.c"), encoding="ascii") as source:
-        stands = len(call) > 0 and " ".join(call) in " ".join(source.read().split())
+def stands_in(code, path):
+    """Whether the code that docs/USING.md shows stands in a file, but for spaces and the signs of a comment."""
+    with open(os.path.join(ROOT, path), encoding="utf-8") as source:
+        words = [word for word in source.read().split() if word != "///"]
+    stands = len(code) > 0 and " ".join(code.split()) in " ".join(words)
     if not stands:
-        say("the call that docs/USING.md shows isn't that of examples/c/answer.c")
+        say(f"the code that docs/USING.md shows isn't that of {path}")
     return stands
+
+
+def shown_calls():
+    """The calls that docs/USING.md shows of the example in C, and of the documentation of `type_at`."""
+    in_c = shown_below("What it does is a call in a loop that begins with line 0 of question 0:")
+    in_rust = shown_below("sources, the number of one of them and a byte in it, and gives the expression's number, span and text with its type:")
+    return stands_in(in_c, "examples/c/answer.c") and stands_in(in_rust, "rust/roognaps/src/hover.rs")
 
 
 def shown_c(folder):
@@ -462,17 +494,17 @@ def linted(folder):
         say("cargo clippy isn't at hand; the lint is left out")
         return True
     bench = ["-p", "bench"] if has_library(folder, "lookup_bench") else []
-    packages = ["-p", "roognaps", "-p", "fuzz", *bench, "--features", "roognaps/export"]
+    packages = ["-p", "roognaps", "-p", "fuzz", "-p", "typetool", *bench, "--features", "roognaps/export,typetool/library"]
     return cargo("the lint", "clippy", "--offline", *packages, "--all-targets", "--", "-D", "warnings") is not None
 
 
 def tests(package, *words):
     """The tests of a package pass, and there are some."""
-    tested = cargo(f"the tests of rust/{package}", "test", "--offline", "-p", package, *words)
+    tested = cargo(f"the tests of {package}", "test", "--offline", "-p", package, *words)
     if tested is None:
         return False
     passed = [int(count) for count in re.findall(r"^test result: ok\. (\d+) passed", tested, re.MULTILINE)]
-    say(f"rust/{package}: {sum(passed)} tests passed")
+    say(f"{package}: {sum(passed)} tests passed")
     if sum(passed) == 0:
         say("no test was run")
     return sum(passed) > 0
@@ -482,9 +514,10 @@ def fuzz_target():
     fuzzed = cargo("the fuzz target", "run", "--offline", "--quiet", "-p", "fuzz", "--", "2000", "1")
     if fuzzed is None:
         return False
-    counts = re.search(r"^2000 inputs: .*$", fuzzed, re.MULTILINE)
-    say(f"rust/fuzz: {counts.group()}; no difference" if counts else "rust/fuzz prints no counts")
-    return counts is not None
+    counts = [re.search(pattern, fuzzed, re.MULTILINE) for pattern in (r"^2000 inputs: .*$", r"^about `at`: 250 inputs: .*$")]
+    for found in counts:
+        say(f"rust/fuzz: {found.group()}; no difference" if found else "rust/fuzz doesn't print all its counts")
+    return all(counts)
 
 
 def lookups(folder):
@@ -511,11 +544,11 @@ def main():
         return 0 if well else 1
     well = compiled_library(folder) and well
     well = header_in_cpp() and well
+    well = shown_calls() and well
     if shutil.which("cc"):
         well = example_in_c(folder) and well
         well = vectors_in_c(folder) and well
         well = planted_faults(folder) and well
-        well = shown_call() and well
     else:
         say("cc isn't at hand; the C programs are left out")
     if shutil.which("cargo"):

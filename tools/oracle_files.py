@@ -1,7 +1,7 @@
 #!/usr/bin/env python3
 """Writes random index files and what the oracle prints for them, as pairs NAME.index and NAME.printed for definition_check.py.
 
-usage: oracle_files.py TYPETOOL OUT [--records N] [--programs N] [--damaged N] [--first-seed S] [--random-only]
+usage: oracle_files.py TYPETOOL OUT [--records N] [--programs N] [--damaged N] [--at N] [--first-seed S] [--random-only]
 
 TYPETOOL is the oracle's program (rust/target/debug/typetool). A file's NAME is its kind and its number: `TYPETOOL gen KIND NUMBER` writes
 it, `TYPETOOL oracle` answers it. Each kind is tried at the numbers S, S+1, .. until enough files are small enough to compute. Beside them
@@ -92,6 +92,7 @@ def options_of():
     parser.add_argument('--records', type=int, default=80)
     parser.add_argument('--programs', type=int, default=40)
     parser.add_argument('--damaged', type=int, default=340)
+    parser.add_argument('--at', type=int, default=60)
     parser.add_argument('--first-seed', type=int, default=1)
     parser.add_argument('--bytes', type=int, default=6144, help='a file of at most so many bytes is small')
     parser.add_argument('--larger', type=int, default=3, help='larger files that are taken of each random kind')
@@ -105,7 +106,7 @@ def main():
     os.makedirs(options.out, exist_ok=True)
     if os.listdir(options.out):
         sys.exit('the folder %s is not empty' % options.out)
-    for kind in ('bytes', 'records', 'programs', 'damaged'):
+    for kind in ('bytes', 'records', 'programs', 'damaged', 'at'):
         write_kind(options, kind)
 
 

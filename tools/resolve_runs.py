@@ -97,6 +97,29 @@ def doubling(count):
     return HEAD + lines + expression(2 * count, "lit -") + "Q def 0 0\n"
 
 
+def bytes_of(expressions, asked):
+    """So many expressions in one module, each a byte longer than the one before and all from byte 0 on, so that byte n is that of expression n;
+    every third is a number, the others are bools. The last two have the same span. Asked at so many bytes, from the last on."""
+    nodes = {0: ("lit -", "felt"), 1: ("bool", "bool"), 2: ("bool", "bool")}
+    lines = "".join(f"E 0 0 {n + 1} - - plain - - {nodes[n % 3][0]}\n" for n in range(expressions - 1))
+    lines += f"E 0 0 {expressions - 1} - - plain - - lit u32\n"
+    last = expressions - 2
+    owed = ["u32" if n == last else nodes[n % 3][1] for n in range(expressions - 1)]
+    places = range(last, last - asked, -1)
+    return HEAD + lines + "".join(f"Q at 0 {n}\n" for n in places), [f"at 0 {n} type {owed[n]}" for n in places]
+
+
+def parentheses_at(count):
+    """So many expressions around each other, each a byte longer to the right; asked at the last bytes of the two outermost."""
+    lines = "E 0 0 1 - - plain - - bool\n" + "".join(f"E 0 0 {n + 1} - - plain - - paren {n - 1}\n" for n in range(1, count))
+    return HEAD + lines + f"Q at 0 {count - 1}\nQ at 0 {count - 2}\nQ at 0 {count}\n"
+
+
+def cast_at(felts):
+    """A cast to a tuple of so many felts, asked at its byte and behind it."""
+    return HEAD + "T felt\nT tuple" + " 0" * felts + "\nE 0 7 8 - - plain - - cast 1\nQ at 0 7\nQ at 0 8\n"
+
+
 # ------------------------------------------------------------------ how long
 
 
@@ -187,6 +210,12 @@ def made():
     yield "2,048 items held", shadowed_tuple(2), ["expr 0 0 refused 10", "expr 0 1 type felt"]
     yield "2,049 items held", shadowed_tuple(3), ["expr 0 0 refused 9", "expr 0 1 type felt"]
     yield "a constant asked 16,384 times", doubling(15), ["def 0 0 type felt"]
+    yield "256 bytes among 512 expressions", *bytes_of(512, 256)
+    yield "at, 256 expressions open", parentheses_at(256), ["at 0 255 type bool", "at 0 254 type bool", "at 0 256 none"]
+    yield "at, 257 expressions open", parentheses_at(257), ["at 0 256 refused 8", "at 0 255 type bool", "at 0 257 none"]
+    felts = "(" + ",".join(["felt"] * 819) + ")"
+    yield "at, a text of 4,096 bytes", cast_at(819), [f"at 0 7 type {felts}", "at 0 8 none"]
+    yield "at, a text of 4,101 bytes", cast_at(820), ["at 0 7 refused 10", "at 0 8 none"]
     yield "a text of 4,096 bytes", *texts([2])
     yield "a text of 4,097 bytes", *texts([3])
     yield "a text of 4,096 bytes with numbers in it", *numbers(0)

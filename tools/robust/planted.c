@@ -38,8 +38,12 @@ roognaps_load_result roognaps_load(const uint8_t *file, size_t file_bytes, uint3
 }
 
 /* What is spoilt of one line's answer, by its kind. */
-static void spoil_line(roognaps_answer_result *given, uint8_t *out)
+static void spoil_line(roognaps_answer_result *given, uint32_t *types, uint8_t *out)
 {
+    size_t bytes = roognaps_answer_bytes(*given);
+    int is_none = bytes > 6 && memcmp(out + bytes - 6, "\tnone\n", 6) == 0;
+    if (planted("no_types_after_none") && is_none)
+        memset(types, 0, ROOGNAPS_TYPE_WORDS * sizeof *types);
     if (planted("another_letter"))
         out[0] ^= 1;
     if (planted("a_byte_less"))
@@ -79,7 +83,7 @@ roognaps_answer_result roognaps_answer(const uint8_t *file, size_t file_bytes, u
                                                  type_count, places, place_count, out, out_count);
     switch (roognaps_answer_kind(given)) {
     case ROOGNAPS_ANSWER_LINE:
-        spoil_line(&given, out);
+        spoil_line(&given, types, out);
         break;
     case ROOGNAPS_ANSWER_REFUSED:
         spoil_refused(&given);

@@ -9,8 +9,8 @@
  *
  * Each vector is loaded, answered all at once and question by question, and asked with each buffer
  * one element too short. Every question of the vectors has one line: line 1 is past the last, and going
- * on from there is going on with the next question. Exit status 0: every byte as stored; 1: a
- * difference; 2: no vectors.
+ * on from there is going on with the next question. After a line `none` the types are the six that
+ * every line begins with. Exit status 0: every byte as stored; 1: a difference; 2: no vectors.
  */
 #include <inttypes.h>
 #include <stdio.h>
@@ -242,6 +242,39 @@ static int ends_refused(const char *line, size_t length, uint32_t refusal)
     return n > 0 && length >= (size_t)n && memcmp(line + length - (size_t)n, tail, (size_t)n) == 0;
 }
 
+/* Whether a line is one that says `none`. */
+static int ends_none(const char *line, size_t length)
+{
+    static const char tail[] = "\tnone\n";
+    size_t n = sizeof tail - 1;
+    return length >= n && memcmp(line + length - n, tail, n) == 0;
+}
+
+/* What the types hold after a line that makes no type: the six first ones and zeros. */
+static uint32_t first_types[ROOGNAPS_TYPE_WORDS];
+
+/* Whether types and places are as a line `none` leaves them. */
+static int types_are_the_first(struct buffers buffers)
+{
+    static const roognaps_place places[ROOGNAPS_PLACES];
+    return memcmp(buffers.types, first_types, sizeof first_types) == 0 &&
+           memcmp(buffers.places, places, sizeof places) == 0;
+}
+
+/* Asks what `felt` stands for, which makes no type. */
+static void find_first_types(void)
+{
+    static const char file[] = "index\t1\nM\tm\nS\t-\tmodule\nT\tfelt\nQ\ttype\t0\t0\t0\n";
+    static const char line[] = "type\t0\t0\ttype\tfelt\n";
+    const struct vector felt = {"felt", (const uint8_t *)file, sizeof file - 1, line, sizeof line - 1};
+    struct buffers buffers = lent_filled();
+    roognaps_answer_result result = answer(&felt, 0, 0, buffers);
+    if (roognaps_answer_kind(result) != ROOGNAPS_ANSWER_LINE || types_and_places_are_zero(buffers))
+        differs(&felt, "the types of a line");
+    memcpy(first_types, buffers.types, sizeof first_types);
+    give_back(buffers);
+}
+
 /* The line of a question, whose owed bytes these are; or that it is refused as they say. */
 static void one_line(const struct vector *vector, uint32_t number, const char *line, size_t length)
 {
@@ -252,6 +285,8 @@ static void one_line(const struct vector *vector, uint32_t number, const char *l
     switch (roognaps_answer_kind(result)) {
     case ROOGNAPS_ANSWER_LINE:
         is_right = bytes == length && memcmp(line, buffers.out, length) == 0;
+        if (ends_none(line, length) && !types_are_the_first(buffers))
+            differs(vector, "the types or places after none");
         break;
     case ROOGNAPS_ANSWER_REFUSED:
         is_right = bytes == 0 && ends_refused(line, length, roognaps_answer_refusal(result));
@@ -406,6 +441,7 @@ static size_t replay_first(const char *bytes, size_t length)
 int main(int count, char **paths)
 {
     int which;
+    find_first_types();
     for (which = 1; which < count; which++) {
         size_t length, at = 0;
         char *bytes = whole_file(paths[which], &length);

@@ -23,11 +23,12 @@ static uint64_t below(uint64_t end)
     return any() % end;
 }
 
-/* Pieces of lines, right and wrong; the first three are whole lines. */
+/* Pieces of lines, right and wrong; the first four are whole lines. */
 static const char *const pieces[] = {
     "expr\t0\t0\ttype\tfelt\n", "def\t7\t9\trefused\t7\n", "type\t0\t1\ttype\t(u32,bool)\n",
-    "expr\t", "def", "\t", "\n", "0", "-1", "00", "4294967296", "99999999999999999999", "type\t", "refused\t",
-    "felt", "(", ")", "[", ";", "]", ",", "ptr(", "struct:", "fn:", "0.0", "\xff", "\xc3", "\xc3\xa9", "\r", " ",
+    "at\t0\t4294967295\tnone\n",
+    "expr\t", "def", "at\t", "none", "\t", "\n", "0", "-1", "00", "4294967296", "99999999999999999999", "type\t",
+    "refused\t", "felt", "(", ")", "[", ";", "]", ",", "ptr(", "struct:", "fn:", "0.0", "\xff", "\xc3", "\xc3\xa9", "\r", " ",
 };
 
 static void scribble(uint8_t *out, size_t count)
@@ -35,7 +36,7 @@ static void scribble(uint8_t *out, size_t count)
     size_t at = 0;
     uint64_t way = below(4);
     while (at < count) {
-        const char *piece = pieces[below(way == 0 ? 3 : sizeof pieces / sizeof *pieces)];
+        const char *piece = pieces[below(way == 0 ? 4 : sizeof pieces / sizeof *pieces)];
         size_t n = strlen(piece);
         if (way == 1 && below(8) == 0)
             piece = "((((((((", n = 8;

@@ -1,5 +1,9 @@
 //! The files whose questions are answered.
 
+use index_file::limits;
+use index_file::load::load;
+use index_file::records::Question;
+
 use crate::files::File;
 
 pub struct Asked {
@@ -53,7 +57,37 @@ pub fn whole(files: &[File]) -> Vec<Asked> {
         Asked::new("128 constants", constants(128)),
         Asked::new("a constant asked 1,024 times", doubling(11)),
     ]);
+    // The largest index, and as many expressions in one module as there may be.
+    asked.extend([
+        asked_at("64 KB, random records, `at`", &files[2]),
+        asked_at("512 E lines in a module, `at`", &files[3]),
+    ]);
     asked
+}
+
+/// The records of a file, asked by 256 questions `at`, each for the middle of some expression.
+fn asked_at(name: &str, file: &File) -> Asked {
+    let mut index = load(&file.bytes).expect("an accepted file");
+    let modules = &index.modules;
+    let questions = (0..limits::QUESTIONS).map(|number| {
+        let module = number * modules.len() / limits::QUESTIONS;
+        let expressions = &modules[module].expressions;
+        let (start, end) = expressions[37 * number % expressions.len()].span;
+        Question::At {
+            module,
+            position: (start + end) / 2,
+        }
+    });
+    index.questions = questions.collect();
+    assert!(
+        limits::passed(&index).is_empty(),
+        "a file within the limits"
+    );
+    Asked {
+        name: name.to_string(),
+        bytes: index.to_text().into_bytes(),
+        first_only: false,
+    }
 }
 
 /// Rows of files of which each asks twice as much as the one before.

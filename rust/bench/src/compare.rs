@@ -2,10 +2,12 @@
 //! files with faults: its verdict, the words behind the buffer and the zeros of a refusal in a buffer
 //! that isn't clear, and every record word of an accepted file in a cleared one.
 
+use std::path::Path;
+
 use index_file::load::{Refusal, load};
 use index_file::words::{WORDS, with_plain_empty_lists, words};
 use roognaps::raw::{self, Loaded};
-use typetool::generate::faults::Faults;
+use typetool::generate::faults::{Part, parts};
 
 use crate::library;
 
@@ -17,9 +19,20 @@ const SHORT: u64 = 64;
 
 /// True if no file differs; differing ones are written to the folder.
 pub fn run(count: u64, seed: u64, compare_words: bool, folder: &str) -> Result<bool, String> {
+    let mut differences = 0;
+    for (first, part) in [0, count].into_iter().zip(parts(count, seed)) {
+        let path = |number: u64| format!("{folder}/{seed}-{}.idx", first + number);
+        differences += run_part(part, compare_words, path)?;
+    }
+    Ok(differences == 0)
+}
+
+/// The number of differences; a differing file is written to the path of its number.
+fn run_part(part: Part, compare_words: bool, path: impl Fn(u64) -> String) -> Result<u64, String> {
+    let Part { name, count, files } = part;
     let mut verdicts = [0u64; 6];
     let mut differences = 0;
-    for (number, file) in (0..count).zip(Faults::new(seed)) {
+    for (number, file) in (0..count).zip(files) {
         let expected = load(&file).map(|index| words(&file, &index));
         let verdict = expected
             .as_ref()
@@ -31,19 +44,25 @@ pub fn run(count: u64, seed: u64, compare_words: bool, folder: &str) -> Result<b
         }
         if let Some(said) = said {
             differences += 1;
-            let path = format!("{folder}/{seed}-{number}.idx");
-            let fault = |error: std::io::Error| format!("{path}: {error}");
-            std::fs::create_dir_all(folder).map_err(fault)?;
-            std::fs::write(&path, &file).map_err(fault)?;
+            let path = path(number);
+            write(&path, &file)?;
             println!("{path}: {said}");
         }
     }
     let [accepted, _, two, three, four, five] = verdicts;
     println!(
-        "{count} files: {accepted} accepted, refused by 2: {two}, 3: {three}, 4: {four}, 5: {five}; \
+        "{count} {name}: {accepted} accepted, refused by 2: {two}, 3: {three}, 4: {four}, 5: {five}; \
          {differences} differences"
     );
-    Ok(differences == 0)
+    Ok(differences)
+}
+
+fn write(path: &str, file: &[u8]) -> Result<(), String> {
+    let fault = |error: std::io::Error| format!("{path}: {error}");
+    if let Some(folder) = Path::new(path).parent() {
+        std::fs::create_dir_all(folder).map_err(fault)?;
+    }
+    std::fs::write(path, file).map_err(fault)
 }
 
 /// A buffer with something in every word.

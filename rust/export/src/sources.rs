@@ -47,6 +47,15 @@ impl Source {
         let column = before.len() - line_start.map_or(0, |at| at + 1) + 1;
         (line, column)
     }
+
+    /// The byte of a line and a column, both from 1: where `line_and_column` gives these two. The LF is
+    /// the last byte of its line. None where the text has no such line, or the line no such column.
+    pub fn byte_at(&self, line: usize, column: usize) -> Option<usize> {
+        let (line, column) = (line.checked_sub(1)?, column.checked_sub(1)?);
+        let mut lines = self.text.split_inclusive('\n').map(str::len);
+        let before: usize = lines.by_ref().take(line).sum();
+        (column < lines.next()?).then_some(before + column)
+    }
 }
 
 #[derive(Debug, Clone, PartialEq, Eq)]

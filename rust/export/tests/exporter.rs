@@ -258,3 +258,24 @@ fn sources_named_by_arguments() {
     let error = Source::from_argument(path).expect_err("it is gone");
     assert!(error.starts_with(path), "{error}");
 }
+
+/// Each byte has a line and a column of its own, and no other place has a byte.
+#[test]
+fn bytes_of_lines_and_columns() {
+    for text in ["", "\n", "a", "a\n", "ab\n\nc", "\u{e9}\r\n\n  x\n\n"] {
+        let source = source("main", text);
+        let bytes: Vec<usize> = (0..text.len()).collect();
+        let places = bytes.iter().map(|byte| source.line_and_column(*byte));
+        let back = places.map(|(line, column)| source.byte_at(line, column));
+        assert_eq!(
+            back.collect::<Option<Vec<usize>>>(),
+            Some(bytes),
+            "{text:?}"
+        );
+        let all = (0..9).flat_map(|line| (0..9).map(move |column| (line, column)));
+        let found = all.filter_map(|(line, column)| source.byte_at(line, column));
+        assert_eq!(found.count(), text.len(), "{text:?}");
+        assert_eq!(source.byte_at(usize::MAX, usize::MAX), None);
+        assert_eq!(source.byte_at(1, usize::MAX), None);
+    }
+}

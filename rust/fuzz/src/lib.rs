@@ -1,8 +1,8 @@
 //! One input through the static library, and all that is known of it compared: the verdict and the
 //! record words with the Rust loader's, the answers with the oracle's where the original sources are
 //! reachable, one way of asking with the other, and every buffer with what it has to hold. (Of the type
-//! words after a type only its text is known, the answer line.) The first difference panics; a step
-//! over the end of a buffer ends the process.
+//! words after a type only its text is known, the answer line; after `none` all are.) The first
+//! difference panics; a step over the end of a buffer ends the process.
 
 #[cfg(feature = "libfuzzer")]
 mod gentle;
@@ -16,11 +16,11 @@ use guarded::Guarded;
 use index_file::load::{Refusal, load};
 use index_file::records::Index;
 use index_file::words::{WORDS, with_plain_empty_lists, words};
-use roognaps::AnswerLine;
 use roognaps::raw::{
     self, ANSWER_BYTES, Buffers, LineAnswer, LinesAnswer, Loaded, PLACES, Place, RECORD_WORDS,
     TYPE_WORDS,
 };
+use roognaps::{AnswerLine, Said};
 
 const _: () = assert!(WORDS == RECORD_WORDS, "both sides count as many words");
 
@@ -39,6 +39,9 @@ const ONE_BY_ONE: usize = 16;
 #[cfg(originals)]
 const BUDGET: u64 = 20_000;
 
+/// A file whose line makes no type beside the six that every line begins with.
+const ONLY_FELT: &[u8] = b"index\t1\nM\tm\nS\t-\tmodule\nT\tfelt\nQ\ttype\t0\t0\t0\n";
+
 /// How many inputs came to which end.
 #[derive(Debug, Clone, Copy, Default)]
 pub struct Counts {
@@ -49,6 +52,8 @@ pub struct Counts {
     /// Accepted files whose answers weren't asked for.
     pub passed_over: u64,
     pub types: u64,
+    /// Questions `at` where no expression is.
+    pub nones: u64,
     /// Questions refused by 6 to 10.
     pub questions_refused: [u64; 5],
 }
@@ -60,8 +65,9 @@ impl fmt::Display for Counts {
         write!(
             f,
             "{} inputs: {} accepted ({} passed over), refused by 2: {two}, 3: {three}, 4: {four}, \
-             5: {five}; answers: {} types, 6: {six}, 7: {seven}, 8: {eight}, 9: {nine}, 10: {ten}",
-            self.inputs, self.accepted, self.passed_over, self.types
+             5: {five}; answers: {} types, {} none, 6: {six}, 7: {seven}, 8: {eight}, 9: {nine}, \
+             10: {ten}",
+            self.inputs, self.accepted, self.passed_over, self.types, self.nones
         )
     }
 }
@@ -75,20 +81,25 @@ pub struct Target {
     out: Guarded<u8>,
     /// The words that loading alone leaves where the buffer was filled before, if the file is accepted.
     loaded: Vec<u32>,
+    /// The type words that hold the six first types and zeros.
+    first_types: Vec<u32>,
     pub counts: Counts,
 }
 
 impl Default for Target {
     fn default() -> Self {
-        Self {
+        let mut target = Self {
             file: Guarded::new(MOST_BYTES),
             records: Guarded::new(RECORD_WORDS),
             types: Guarded::new(TYPE_WORDS),
             places: Guarded::new(PLACES),
             out: Guarded::new(ANSWER_BYTES),
             loaded: Vec::new(),
+            first_types: Vec::new(),
             counts: Counts::default(),
-        }
+        };
+        target.first_types = target.types_after_felt();
+        target
     }
 }
 
@@ -143,6 +154,18 @@ impl Target {
                 }
             }
         }
+    }
+
+    fn types_after_felt(&mut self) -> Vec<u32> {
+        let length = ONLY_FELT.len();
+        self.file.last(length).copy_from_slice(ONLY_FELT);
+        let LineAnswer::Line { bytes } = self.answer(length, 0, 0) else {
+            panic!("the type of felt has a line");
+        };
+        assert_eq!(self.lines_in_out(bytes), ["type\t0\t0\ttype\tfelt"]);
+        let types = self.types.all().to_vec();
+        assert!(!all_are(&types, 0), "felt is a type");
+        types
     }
 
     fn fill(&mut self) {
@@ -220,6 +243,13 @@ impl Target {
         self.assert_out_as_it_was();
     }
 
+    /// After a line `none` there are the six types that every line begins with.
+    fn assert_types_after(&mut self, line: &str) {
+        if line.ends_with("\tnone") {
+            assert!(self.types.all() == self.first_types, "types after none");
+        }
+    }
+
     fn assert_types_and_places(&mut self, word: u32) {
         assert!(all_are(self.types.all(), word), "types");
         assert!(all_are(self.places.all(), [word; 5]), "places");
@@ -254,6 +284,7 @@ impl Target {
             let read: AnswerLine = line.parse().expect("an answer line");
             assert_eq!(read.to_string(), *line);
             match read.result {
+                Ok(Said::None) => self.counts.nones += 1,
                 Ok(_) => self.counts.types += 1,
                 Err(refusal) => {
                     self.counts.questions_refused[refusal.number() as usize - 6] += 1;
@@ -306,6 +337,9 @@ impl Target {
                 let is_refused = lines.last().is_some_and(|line| is_refused(line));
                 if is_more || is_refused {
                     assert!(all_are(self.types.all(), 0), "types");
+                } else {
+                    let last = lines.last().cloned().unwrap_or_default();
+                    self.assert_types_after(&last);
                 }
             }
             if !is_more {
@@ -334,6 +368,7 @@ impl Target {
         match self.answer(length, number, 0) {
             LineAnswer::Line { bytes } => {
                 assert_eq!(self.lines_in_out(bytes), [line], "answer");
+                self.assert_types_after(line);
             }
             LineAnswer::Refused { refusal, bytes } => {
                 assert_eq!(bytes, 0, "a refused line has no bytes");

@@ -1,5 +1,5 @@
 //! The entry points of libFuzzer. An input is changed by libFuzzer (2 of 10), by the damages of `typetool
-//! gen damaged` (1 of 10), or so that it mostly stays right (the others).
+//! gen at` (1 of 10), or so that it mostly stays right (the others).
 
 use std::cell::RefCell;
 use std::ffi::{c_int, c_uint};
@@ -73,7 +73,7 @@ pub unsafe extern "C" fn LLVMFuzzerCustomMutator(
     let buffer = unsafe { slice::from_raw_parts_mut(data, max_size) };
     let file = buffer[..size].to_vec();
     let mut changed = match way {
-        2 => damage::damage(&mut random, file),
+        2 => damage::damage_at(&mut random, file),
         _ => gentle::change(&mut random, file),
     };
     changed.truncate(max_size);

@@ -1,17 +1,18 @@
 //! Generated files through the target: `fuzz N SEED`, without libFuzzer. Every second file is one with
-//! faults (those of `typetool check-index`), the others are `typetool gen damaged` and `gen records`.
+//! faults (those of `typetool check-index`), the others are `typetool gen damaged` and `gen records`;
+//! behind them stand an eighth as many about `at`.
 
 use std::process::ExitCode;
 
-use fuzz::Target;
+use fuzz::{Counts, Target};
 use typetool::generate::faults::Faults;
 use typetool::generate::{self, Kind};
 
 const HELP: &str = "usage: fuzz N SEED
        fuzz FILE
 
-Runs N generated files, or one file, through the static library and compares everything; the first
-difference ends the run. Prints how many files came to which end.";
+Runs N generated files and N/8 about `at`, or one file, through the static library and compares
+everything; the first difference ends the run. Prints how many files came to which end.";
 
 fn main() -> ExitCode {
     let words: Vec<String> = std::env::args().skip(1).collect();
@@ -68,5 +69,10 @@ fn generated(count: u64, seed: u64) {
             }
         }
         println!("{}", target.counts);
+        target.counts = Counts::default();
+        for file in Faults::about_at(seed).take(count as usize / 8) {
+            target.one_input(&file);
+        }
+        println!("about `at`: {}", target.counts);
     });
 }

@@ -36,12 +36,12 @@ const GROUPS: &[(&str, &[&str])] = &[
     ),
     ("unary", &UNARY_OPERATORS),
     ("binary", &BINARY_OPERATORS),
-    ("question", &["expr", "context", "def", "type"]),
+    ("question", &["expr", "context", "def", "type", "at"]),
     (
         "answer",
         &[
             "felt", "bool", "u32", "unknown", "error", "()", "tuple", "ptr", "array", "struct",
-            "fn",
+            "fn", "none",
         ],
     ),
     ("refusal", &["2", "3", "4", "5", "6", "7", "8", "9", "10"]),
@@ -122,7 +122,7 @@ impl Seen {
         seen
     }
 
-    /// Absent records are asked too, but have no form.
+    /// Absent records are asked too, but have no form. `at` asks the expression that it picks.
     fn question(&mut self, index: &Index, question: &Question) {
         let (kind, module, number) = question.lead();
         let absent = Module::default();
@@ -145,6 +145,11 @@ impl Seen {
             Question::Type { scope, .. } => {
                 forms.extend(module.types.get(number).map(type_form));
                 forms.extend(module.scopes.get(*scope).map(|s| scope_form(s.kind)));
+            }
+            Question::At { position, .. } => {
+                let expression = module.expression_at(*position);
+                let expression = expression.map(|number| &module.expressions[number]);
+                forms.extend(expression.map(expression_forms).into_iter().flatten());
             }
         }
         self.has.insert(forms[0]);
@@ -233,12 +238,13 @@ fn node_name(node: &Node) -> &'static str {
     }
 }
 
-/// The form of an answer line: of its type by the outermost part, or of its refusal.
+/// The form of an answer line: of its type by the outermost part, of its refusal, or `none`.
 fn answer_form(line: &str) -> Option<Form> {
     let fields: Vec<&str> = line.split('\t').collect();
     let (group, text) = match fields[..] {
         ["refused", number, _] | [_, _, _, "refused", number] => ("refusal", number),
         [_, _, _, "type", text] => ("answer", text),
+        [_, _, _, "none"] => ("answer", "none"),
         _ => return None,
     };
     let name = match text.as_bytes() {

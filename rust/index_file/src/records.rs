@@ -201,10 +201,15 @@ pub enum Question {
         ty: usize,
         scope: usize,
     },
+    /// The type at a byte of the module's source.
+    At {
+        module: usize,
+        position: u64,
+    },
 }
 
 impl Question {
-    /// Kind, module and number, as they begin an answer line.
+    /// Kind, module and number, as they begin an answer line; of `at` the position is the number.
     pub fn lead(&self) -> (&'static str, usize, usize) {
         match *self {
             Self::Expr {
@@ -212,6 +217,7 @@ impl Question {
             } => ("expr", module, expression),
             Self::Def { module, definition } => ("def", module, definition),
             Self::Type { module, ty, .. } => ("type", module, ty),
+            Self::At { module, position } => ("at", module, position as usize),
         }
     }
 }

@@ -169,5 +169,6 @@ fn question_line(question: &Question) -> Line {
         Question::Type { module, ty, scope } => {
             line.field("type").field(module).field(ty).field(scope)
         }
+        Question::At { module, position } => line.field("at").field(module).field(position),
     }
 }

@@ -353,6 +353,7 @@ impl<'f> Writer<'f> {
             } => [0, module as u32, expression as u32, link(context)],
             Question::Def { module, definition } => [1, module as u32, definition as u32, 0],
             Question::Type { module, ty, scope } => [2, module as u32, ty as u32, scope as u32],
+            Question::At { module, position } => [3, module as u32, position as u32, 0],
         };
         self.put(QUESTIONS + QUESTION_WORDS * self.questions, &row);
         self.questions += 1;

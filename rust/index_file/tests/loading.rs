@@ -81,6 +81,15 @@ const WRONG_FORMS: &[&str] = &[
     "Q type 0 0",
     "Q def 0 65536",
     "Q def 0 +1",
+    "Q at",
+    "Q at 0",
+    "Q at 0 0 0",
+    "Q at 0 0 -",
+    "Q at - 0",
+    "Q at 0 -",
+    "Q at 0 4294967296",
+    "Q at 0 01",
+    "Q at 65536 0",
 ];
 
 #[test]
@@ -134,6 +143,13 @@ fn links() {
     accepted(&with_head(
         "T felt\nT ptr 0\nE 0 0 0 1 - assign 0 - paren 0\n",
     ));
+}
+
+/// Nothing that `at` names has to be there.
+#[test]
+fn at_has_no_links() {
+    accepted(&with_head("Q at 0 4294967295\nQ at 1 0\nQ at 65535 7\n"));
+    accepted("index 1\nQ at 0 0\n");
 }
 
 #[test]

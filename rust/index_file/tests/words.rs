@@ -227,10 +227,14 @@ impl Words<'_> {
                 module,
                 definition: a as usize,
             },
-            _ => Question::Type {
+            2 => Question::Type {
                 module,
                 ty: a as usize,
                 scope: b as usize,
+            },
+            _ => Question::At {
+                module,
+                position: a.into(),
             },
         }
     }
@@ -256,6 +260,29 @@ fn words_of_the_vectors_hold_their_index() {
         }
     }
     assert!(accepted > 300);
+}
+
+/// The rows of the four kinds of question, by hand.
+#[test]
+fn words_of_questions() {
+    let file = "index 1\nQ expr 1 2 3\nQ expr 1 2 -\nQ def 4 5\nQ type 6 7 8\n\
+        Q at 9 4294967295\nQ at 65535 0\n";
+    let file = file.replace(' ', "\t").into_bytes();
+    let index = load(&file).unwrap();
+    let words = words(&file, &index);
+    let rows = [
+        [0, 1, 2, 4],
+        [0, 1, 2, 0],
+        [1, 4, 5, 0],
+        [2, 6, 7, 8],
+        [3, 9, u32::MAX, 0],
+        [3, 65_535, 0, 0],
+    ];
+    assert_eq!(words[11_264..11_264 + 24], rows.concat());
+    let file = &file;
+    let words = &words;
+    assert_eq!(Words { file, words }.index(), index);
+    assert_eq!(index.to_text().as_bytes(), &file[..]);
 }
 
 /// Some words of the whole case of document 01, by hand.

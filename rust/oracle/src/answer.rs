@@ -30,6 +30,8 @@ impl Default for Options {
 pub enum Outcome {
     Type(String),
     Refused(u8),
+    /// No expression covers the byte that `at` names.
+    None,
     /// Given up: too many demands, or a type expression whose tree is too large.
     Budget,
 }
@@ -50,6 +52,7 @@ impl Answer {
         let rest = match &self.outcome {
             Outcome::Type(text) => format!("type\t{text}"),
             Outcome::Refused(number) => format!("refused\t{number}"),
+            Outcome::None => "none".to_string(),
             Outcome::Budget => "budget".to_string(),
         };
         format!("{kind}\t{module}\t{number}\t{rest}")

@@ -14,8 +14,8 @@ use semantic::type_resolution::{
     definition_semantic_type, expression_semantic_type, resolve_ast_type,
 };
 use semantic::{
-    Crate, DefinitionId, ExpressionId, File, FileScopeId, SemanticDatabaseImpl, SemanticDb,
-    SemanticIndex, TypeId,
+    Crate, DefinitionId, ExpressionId, File, FileScopeId, SemanticDatabaseImpl, SemanticIndex,
+    TypeId,
 };
 
 use crate::answer::{Answer, Options, Outcome};
@@ -134,9 +134,8 @@ impl<'i> Oracle<'i> {
 
     pub fn answer(&self, question: &Question) -> Answer {
         let database = self.database();
-        let outcome = match catch(|| self.text(&database, question)) {
-            Ok(Some(text)) => Outcome::Type(text),
-            Ok(None) => Outcome::Refused(10),
+        let outcome = match catch(|| self.said(&database, question)) {
+            Ok(outcome) => outcome,
             Err(Stop::MissingChild) => Outcome::Refused(6),
             Err(Stop::Fault(Fault::Cycle)) => Outcome::Refused(7),
             Err(Stop::Fault(Fault::TooManyOpen)) => Outcome::Refused(8),
@@ -175,32 +174,40 @@ impl<'i> Oracle<'i> {
         database
     }
 
-    /// The text of the question's type; none if it is too long.
-    fn text(&self, database: &Database, question: &Question) -> Option<String> {
-        let ty = self.ask(database, question);
-        TypeText::new(&database.db, &database.files).of(ty)
+    /// What is said of a question that isn't stopped.
+    fn said(&self, database: &Database, question: &Question) -> Outcome {
+        let Some(ty) = self.ask(database, question) else {
+            return Outcome::None;
+        };
+        match TypeText::new(&database.db, &database.files).of(ty) {
+            Some(text) => Outcome::Type(text),
+            None => Outcome::Refused(10),
+        }
     }
 
-    fn ask<'db>(&self, database: &'db Database, question: &Question) -> TypeId<'db> {
-        let db: &'db dyn SemanticDb = &database.db;
-        let crate_id = database.crate_id;
-        match *question {
+    /// The question's type; none where `at` finds no expression. Which one it finds is the change
+    /// request's rule, which the original doesn't have; its type is the original's.
+    fn ask<'db>(&self, database: &'db Database, question: &Question) -> Option<TypeId<'db>> {
+        Some(match *question {
             Question::Expr {
                 module,
                 expression,
                 context,
             } => {
                 let context = self.context(database, module, expression, context);
-                let expression = ExpressionId::new(expression);
-                expression_semantic_type(db, crate_id, database.file(module), expression, context)
+                ask_expression(database, module, expression, context)
             }
             Question::Def { module, definition } => {
                 let number = DefinitionIndex::new(definition);
-                let definition = DefinitionId::new(db, database.file(module), number);
-                definition_semantic_type(db, crate_id, definition)
+                let definition = DefinitionId::new(&database.db, database.file(module), number);
+                definition_semantic_type(&database.db, database.crate_id, definition)
             }
             Question::Type { module, ty, scope } => self.ask_type(database, module, ty, scope),
-        }
+            Question::At { module, position } => {
+                let expression = self.index.expression_at(module, position)?;
+                ask_expression(database, module, expression, None)
+            }
+        })
     }
 
     /// A context is resolved first, in the expression's scope; an absent expression's isn't.
@@ -234,4 +241,14 @@ impl<'i> Oracle<'i> {
         let (file, scope) = (database.file(module), FileScopeId::new(scope));
         resolve_ast_type(&database.db, database.crate_id, file, type_expr, scope)
     }
+}
+
+fn ask_expression<'db>(
+    database: &'db Database,
+    module: usize,
+    expression: usize,
+    context: Option<TypeId<'db>>,
+) -> TypeId<'db> {
+    let (file, expression) = (database.file(module), ExpressionId::new(expression));
+    expression_semantic_type(&database.db, database.crate_id, file, expression, context)
 }

@@ -26,9 +26,8 @@ fn main() -> std::process::ExitCode {
 mod with_originals {
     use std::io::Write;
 
-    use index_file::records::Index;
-    use roognaps::export::Source;
-    use roognaps::{Question, Resolver, Said, Type};
+    use roognaps::export::{Source, named};
+    use roognaps::{Question, Resolver, Said};
 
     pub fn run() -> Result<(), String> {
         let words: Vec<String> = std::env::args().skip(1).collect();
@@ -65,25 +64,5 @@ mod with_originals {
     fn place(source: &Source, at: usize) -> String {
         let (line, column) = source.line_and_column(at);
         format!("{}:{line}:{column}", source.path)
-    }
-
-    /// The type with the names of its structs and functions.
-    fn named(index: &Index, ty: &Type) -> String {
-        let name = |module: u32, definition: u32| {
-            let module = &index.modules[module as usize];
-            let definition = &module.definitions[definition as usize];
-            format!("{}.{}", module.name, definition.name)
-        };
-        match ty {
-            Type::Struct { module, definition } => format!("struct {}", name(*module, *definition)),
-            Type::Function { module, definition } => format!("fn {}", name(*module, *definition)),
-            Type::Tuple(elements) => {
-                let elements: Vec<String> = elements.iter().map(|ty| named(index, ty)).collect();
-                format!("({})", elements.join(", "))
-            }
-            Type::Pointer(element) => format!("ptr({})", named(index, element)),
-            Type::FixedArray { element, size } => format!("[{}; {size}]", named(index, element)),
-            _ => ty.to_string(),
-        }
     }
 }

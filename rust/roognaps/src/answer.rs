@@ -6,7 +6,7 @@ use std::str::FromStr;
 use crate::{Refusal, Type};
 
 /// What an answer line is about, as its first fields name it: a kind of record, its module in the file
-/// and its number in the module.
+/// and its number in the module; or a byte of a module's source.
 #[derive(Debug, Clone, Copy, PartialEq, Eq, Hash)]
 #[non_exhaustive]
 pub enum Question {
@@ -31,6 +31,14 @@ pub enum Question {
         /// The number of the T line in the module.
         type_expression: u32,
     },
+    /// `at`: the type at a byte of a module's source, that of the expression with the shortest span that
+    /// covers the byte.
+    At {
+        /// The number of the module in the file.
+        module: u32,
+        /// The byte, from 0.
+        position: u32,
+    },
 }
 
 impl Question {
@@ -39,11 +47,12 @@ impl Question {
         match self {
             Self::Expression { module, .. }
             | Self::Definition { module, .. }
-            | Self::TypeExpression { module, .. } => module,
+            | Self::TypeExpression { module, .. }
+            | Self::At { module, .. } => module,
         }
     }
 
-    /// The number of the record in its module.
+    /// The number of the record in its module; of `at` the position.
     pub fn number(self) -> u32 {
         match self {
             Self::Expression { expression, .. } => expression,
@@ -51,6 +60,7 @@ impl Question {
             Self::TypeExpression {
                 type_expression, ..
             } => type_expression,
+            Self::At { position, .. } => position,
         }
     }
 
@@ -68,6 +78,10 @@ impl Question {
                 module,
                 type_expression: number,
             },
+            "at" => Self::At {
+                module,
+                position: number,
+            },
             _ => return None,
         })
     }
@@ -80,6 +94,7 @@ impl fmt::Display for Question {
             Self::Expression { .. } => "expr",
             Self::Definition { .. } => "def",
             Self::TypeExpression { .. } => "type",
+            Self::At { .. } => "at",
         };
         write!(f, "{kind}\t{}\t{}", self.module(), self.number())
     }
@@ -101,13 +116,15 @@ impl fmt::Display for Answer {
     }
 }
 
-/// What a line says where it isn't refused. Every line of index 1 has a type; lines that say something
-/// else are to come.
+/// What a line says where it isn't refused. Lines that say something else are to come.
 #[derive(Debug, Clone, PartialEq, Eq, Hash)]
 #[non_exhaustive]
 pub enum Said {
     /// `type`: the type of what the line is about.
     Type(Type),
+    /// `none`: no expression covers the byte, or the module isn't there. Only lines of
+    /// [`Question::At`] say so.
+    None,
 }
 
 /// The fields of an answer line behind those of its [`Question`], parted by tabs.
@@ -115,6 +132,7 @@ impl fmt::Display for Said {
     fn fmt(&self, f: &mut fmt::Formatter<'_>) -> fmt::Result {
         match self {
             Self::Type(ty) => write!(f, "type\t{ty}"),
+            Self::None => f.write_str("none"),
         }
     }
 }
@@ -139,12 +157,14 @@ impl AnswerLine {
     /// assert_eq!(line.ty(), Some(&Type::U32));
     /// let refused: AnswerLine = "def\t0\t4\trefused\t7".parse()?;
     /// assert_eq!(refused.ty(), None);
+    /// let none: AnswerLine = "at\t0\t17\tnone".parse()?;
+    /// assert_eq!(none.ty(), None);
     /// # Ok::<(), roognaps::NoAnswerLine>(())
     /// ```
     pub fn ty(&self) -> Option<&Type> {
         match &self.result {
             Ok(Said::Type(ty)) => Some(ty),
-            Err(_) => None,
+            Ok(Said::None) | Err(_) => None,
         }
     }
 }
@@ -183,7 +203,7 @@ impl fmt::Display for NoAnswerLine {
 
 impl std::error::Error for NoAnswerLine {}
 
-/// Reads exactly what `Display` writes.
+/// Reads what `Display` writes; a line that no question has, as `none` of `expr`, is an error.
 ///
 /// ```
 /// use roognaps::{AnswerLine, Question, Said, Type};
@@ -215,11 +235,15 @@ fn read_line(line: &str) -> Option<AnswerLine> {
     let module = fields.next()?.parse().ok()?;
     let number = fields.next()?.parse().ok()?;
     let question = Question::read(kind, module, number)?;
-    let result = read_result(fields.next()?)?;
+    let result = read_result(question, fields.next()?)?;
     Some(AnswerLine { question, result })
 }
 
-fn read_result(fields: &str) -> Option<Result<Said, Refusal>> {
+fn read_result(question: Question, fields: &str) -> Option<Result<Said, Refusal>> {
+    if fields == "none" {
+        let at = matches!(question, Question::At { .. });
+        return at.then_some(Ok(Said::None));
+    }
     let (word, rest) = fields.split_once('\t')?;
     match word {
         "type" => Some(Ok(Said::Type(rest.parse().ok()?))),
@@ -239,9 +263,32 @@ mod tests {
             "def\t7\t255\ttype\t(felt,struct:0.1)",
             "type\t0\t0\trefused\t9",
             "expr\t65535\t65535\trefused\t10",
+            "at\t0\t24\ttype\tu32",
+            "at\t7\t0\trefused\t7",
+            "at\t65535\t4294967295\tnone",
         ];
         for line in lines {
             let read: AnswerLine = line.parse().expect(line);
+            assert_eq!(read.to_string(), line);
+        }
+    }
+
+    #[test]
+    fn the_lines_of_at() {
+        let question = Question::At {
+            module: 2,
+            position: u32::MAX,
+        };
+        assert_eq!((question.module(), question.number()), (2, u32::MAX));
+        let owed = [
+            ("type\t()", Ok(Said::Type(Type::Tuple(vec![])))),
+            ("refused\t6", Err(Refusal::MissingChild)),
+            ("none", Ok(Said::None)),
+        ];
+        for (rest, result) in owed {
+            let line = format!("at\t2\t4294967295\t{rest}");
+            let read: AnswerLine = line.parse().expect(&line);
+            assert_eq!(read, AnswerLine { question, result });
             assert_eq!(read.to_string(), line);
         }
     }
@@ -263,6 +310,17 @@ mod tests {
             "expr\t0\t0\trefused\t11",
             "expr\t0\t0\tbudget\t1",
             "Expr\t0\t0\ttype\tfelt",
+            "At\t0\t0\tnone",
+            "at\t0\tnone",
+            "at\t0\t0\tnone\t",
+            "at\t0\t0\tnone\t0",
+            "at\t0\t0\tNone",
+            "at\t0\t0\ttype\tnone",
+            "at\t0\t00\tnone",
+            "at\t0\t4294967296\tnone",
+            "expr\t0\t0\tnone",
+            "def\t0\t0\tnone",
+            "type\t0\t0\tnone",
         ];
         for line in lines {
             assert!(line.parse::<AnswerLine>().is_err(), "{line:?}");

@@ -12,6 +12,8 @@ use index_file::limits;
 
 use crate::{AnswerLine, Error, Resolver, on_large_stack};
 
+pub use crate::hover::Hover;
+pub use crate::named::named;
 pub use ::export::sources::{Message, Source, SourceError};
 pub use ::export::{ExportError, ModuleIndex, NameFault};
 pub use index_file::records::Index;

@@ -29,6 +29,9 @@
 //! # Ok::<(), roognaps::Error>(())
 //! ```
 //!
+//! A line says a type, or is refused, or, of the question `at`, says that no expression covers the byte that
+//! was asked for ([`Said`]).
+//!
 //! The file's form is in `docs/FORMAT.md`; `docs/USING.md` goes from source to answers by example,
 //! `docs/REFUSALS.md` says what each [`Refusal`] means and what to do about it.
 //!
@@ -61,15 +64,19 @@
 //! # Features
 //!
 //! - `export`: the module `export` with [`Resolver`]'s `ask_modules`, `ask_sources` and `ask_index`,
-//!   for the original compiler's `SemanticIndex`, for source and for records. It needs the original
-//!   sources.
+//!   for the original compiler's `SemanticIndex`, for source and for records, and with `type_at` and
+//!   `type_at_index`, which give the type at a byte of a source. It needs the original sources.
 
 #![warn(missing_docs)]
 
 mod answer;
 #[cfg(all(feature = "export", originals))]
 pub mod export;
+#[cfg(all(feature = "export", originals))]
+mod hover;
 mod lines;
+#[cfg(all(feature = "export", originals))]
+mod named;
 pub mod raw;
 mod refusal;
 mod resolver;

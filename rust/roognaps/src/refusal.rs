@@ -191,8 +191,8 @@ impl std::error::Error for Refusal {}
 pub enum Error {
     /// The file or the line is refused.
     Refused(Refusal),
-    /// A type was asked for, and the question has no line, or one without a type. Every question of
-    /// index 1 has one line, with a type or a refusal.
+    /// A type was asked for, and the question has no line, or one without a type: `at` says `none` of a
+    /// byte that no expression covers. Every question of index 1 has one line.
     Untyped,
     /// What the library gave is no answer. It is another library than this crate was written for.
     Library(LibraryFault),

@@ -86,7 +86,21 @@ impl Resolver {
     /// 0.
     ///
     /// The error is that of [`line`](Self::line), or [`Error::Untyped`] where there is no such line, or
-    /// one without a type.
+    /// one without a type: [`Said::None`], which `at` has where no expression covers the byte.
+    ///
+    /// ```
+    /// use roognaps::{Error, Resolver, Said, Type};
+    ///
+    /// // `true` at the bytes 3 to 6, and a question about byte 6 and about byte 7.
+    /// let file = b"index\t1\nM\tm\nS\t-\tmodule\n\
+    ///     E\t0\t3\t7\t-\t-\tplain\t-\t-\tbool\nQ\tat\t0\t6\nQ\tat\t0\t7\n";
+    /// let mut resolver = Resolver::new();
+    /// assert_eq!(resolver.answer(file, 0)?.ty, Type::Bool);
+    /// assert_eq!(resolver.answer(file, 1), Err(Error::Untyped));
+    /// let line = resolver.line(file, 1, 0)?.expect("each question has a line");
+    /// assert_eq!(line.result, Ok(Said::None));
+    /// # Ok::<(), Error>(())
+    /// ```
     pub fn answer(&mut self, file: &[u8], question: u32) -> Result<Answer, Error> {
         match self.line(file, question, 0)? {
             Some(AnswerLine {

@@ -3,7 +3,7 @@
 use std::fmt::Write;
 use std::thread;
 
-use roognaps::{AnswerLine, Error, Refusal, Resolver, Type};
+use roognaps::{AnswerLine, Error, Question, Refusal, Resolver, Said, Type};
 
 /// A file with one module and one scope, these lines, and one question about expression 0.
 fn expressions(lines: impl IntoIterator<Item = String>) -> Vec<u8> {
@@ -172,6 +172,34 @@ fn line_numbers() {
         assert_eq!(left, [Ok(second.clone())], "{line}");
         assert_eq!(resolver.lines_from(file, 1, line).next(), None, "{line}");
     }
+}
+
+/// `at` says a type, a refusal, or `none`, which is a line without a type.
+#[test]
+fn bytes_of_a_module() {
+    let file = b"index\t1\nM\tm\nS\t-\tmodule\nE\t0\t5\t8\t-\t-\tplain\t-\t-\tbool\n\
+        E\t0\t9\t10\t-\t-\tplain\t-\t-\tun\t!\t-\n\
+        Q\tat\t0\t7\nQ\tat\t0\t8\nQ\tat\t0\t9\nQ\tat\t65535\t4294967295\n";
+    let mut resolver = Resolver::new();
+    let lines = resolver.answers(file).expect("accepted");
+    let results: Vec<_> = lines.iter().map(|line| line.result.clone()).collect();
+    let typed = Ok(Said::Type(Type::Bool));
+    let missing = Refusal::MissingChild;
+    assert_eq!(
+        results,
+        [typed, Ok(Said::None), Err(missing), Ok(Said::None)]
+    );
+    let question = Question::At {
+        module: 65_535,
+        position: u32::MAX,
+    };
+    assert_eq!(lines[3].question, question);
+    let given = resolver.answer(file, 0).map(|answer| answer.ty);
+    assert_eq!(given, Ok(Type::Bool));
+    assert_eq!(resolver.answer(file, 1), Err(Error::Untyped));
+    assert_eq!(resolver.answer(file, 2), Err(Error::Refused(missing)));
+    assert_eq!(resolver.line(file, 1, 0), Ok(Some(lines[1].clone())));
+    assert_eq!(resolver.line(file, 1, 1), Ok(None));
 }
 
 /// 256 lines of the longest text, and of every third one over that: they don't fit into one answer

@@ -9,7 +9,7 @@ use index_file::load::load;
 use index_file::records::Index;
 use index_file::words::item_count;
 
-use crate::generate::faults::Faults;
+use crate::generate::faults::{Part, parts};
 use crate::tally::Progress;
 
 /// The line that the program owes for a file, without its LF: `accepted` and the number of modules,
@@ -79,10 +79,10 @@ impl Verdicts {
         }
     }
 
-    fn report(&self) -> String {
+    fn report(&self, name: &str) -> String {
         let [two, three, four, five] = self.refused;
         format!(
-            "{} files: {} accepted, refused by 2: {two}, 3: {three}, 4: {four}, 5: {five}; \
+            "{} {name}: {} accepted, refused by 2: {two}, 3: {three}, 4: {four}, 5: {five}; \
              {} differences",
             self.files, self.accepted, self.differences
         )
@@ -100,9 +100,19 @@ pub struct Run {
 impl Run {
     /// True if the program prints the loader's line for every file.
     pub fn run(&self) -> Result<bool, String> {
+        let mut differences = 0;
+        let mut number = 0;
+        for part in parts(self.count, self.seed) {
+            differences += self.run_part(part, &mut number)?;
+        }
+        Ok(differences == 0)
+    }
+
+    /// The number of differences; `number` counts the files of all parts.
+    fn run_part(&self, part: Part, number: &mut u64) -> Result<u64, String> {
         let mut verdicts = Verdicts::default();
         let mut progress = Progress::new();
-        for (number, bytes) in Faults::new(self.seed).take(self.count as usize).enumerate() {
+        for bytes in part.files.take(part.count as usize) {
             let expected = line(&bytes);
             verdicts.add(&expected);
             let given = ask(&self.program, &bytes)?;
@@ -112,20 +122,24 @@ impl Run {
                 keep(&path, &bytes)?;
                 println!("{}: {given:?} instead of {expected:?}", path.display());
             }
-            progress.say(|| verdicts.report());
+            *number += 1;
+            progress.say(|| verdicts.report(part.name));
         }
-        println!("{}", verdicts.report());
-        Ok(verdicts.differences == 0)
+        println!("{}", verdicts.report(part.name));
+        Ok(verdicts.differences)
     }
 }
 
-/// The verdicts of the files without a program.
+/// The verdicts of the files without a program, a line for each part.
 pub fn distribution(count: u64, seed: u64) -> String {
-    let mut verdicts = Verdicts::default();
-    for bytes in Faults::new(seed).take(count as usize) {
-        verdicts.add(&line(&bytes));
-    }
-    verdicts.report()
+    let reports = parts(count, seed).map(|part| {
+        let mut verdicts = Verdicts::default();
+        for bytes in part.files.take(part.count as usize) {
+            verdicts.add(&line(&bytes));
+        }
+        verdicts.report(part.name)
+    });
+    reports.join("\n")
 }
 
 fn keep(path: &Path, bytes: &[u8]) -> Result<(), String> {

@@ -8,6 +8,7 @@ pub mod differential;
 pub mod generate;
 pub mod mutate;
 pub mod originals;
+pub mod place;
 pub mod program;
 pub mod reduce;
 #[cfg(originals)]

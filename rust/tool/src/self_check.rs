@@ -1,11 +1,11 @@
 //! Compares the oracle's own ways of answering: with and without memo; for indexes in the compared
-//! set, children by spans and by records; and for programs, the exported file and the original
-//! builder's own data.
+//! set, children by spans and by records; for programs, the exported file and the original builder's
+//! own data; and `at` with `expr`.
 
 use export::sources::{Source, export_sources};
 use index_file::compared::misled_children;
 use index_file::load::load;
-use index_file::records::Index;
+use index_file::records::{Index, Question};
 use oracle::{Answer, Options, Oracle, Outcome, gives_up};
 
 use crate::generate::{self, Kind, Random, program_indexes};
@@ -17,9 +17,11 @@ pub fn run(count: u64, seed: u64) -> Result<String, String> {
     let mut progress = Progress::new();
     let mut seeds = Random::new(seed);
     let mut only_with_memo = 0;
-    for number in 0..count {
+    // Behind them an eighth of that about `at`.
+    for number in 0..count + count / 8 {
         let seed = seeds.number();
         let kind = match number % 5 {
+            _ if number >= count => Kind::At,
             0 | 1 => Kind::Programs,
             2 => Kind::Edges,
             _ => Kind::Records,
@@ -44,7 +46,9 @@ pub fn run(count: u64, seed: u64) -> Result<String, String> {
 
 /// How many questions were answered only with memo, or a difference.
 fn check_index(index: &Index, tally: &mut Tally) -> Result<u64, String> {
-    let plain = Oracle::new(index, Options::default()).answers();
+    let oracle = Oracle::new(index, Options::default());
+    let plain = oracle.answers();
+    check_at(&oracle, index, &plain)?;
     let only_with_memo = check_memo(index, &plain)?;
     if misled_children(index).is_empty() {
         check_spans(index, &plain)?;
@@ -58,6 +62,37 @@ fn check_index(index: &Index, tally: &mut Tally) -> Result<u64, String> {
         tally.add(&lines);
     }
     Ok(only_with_memo)
+}
+
+/// `at` says what `expr` without context says of the expression that a run through all records finds:
+/// a covering one is kept until a later one is as short or shorter.
+fn check_at(oracle: &Oracle, index: &Index, plain: &[Answer]) -> Result<(), String> {
+    for (question, plain) in index.questions.iter().zip(plain) {
+        let Question::At { module, position } = *question else {
+            continue;
+        };
+        let expressions = index.modules.get(module).map(|module| &module.expressions);
+        let mut found: Option<(usize, u64)> = None;
+        for (number, record) in expressions.into_iter().flatten().enumerate() {
+            let (start, end) = record.span;
+            let covers = (start..end).contains(&position);
+            if covers && found.is_none_or(|(_, length)| end - start <= length) {
+                found = Some((number, end - start));
+            }
+        }
+        let owed = found.map_or(Outcome::None, |(expression, _)| {
+            let question = Question::Expr {
+                module,
+                expression,
+                context: None,
+            };
+            oracle.answer(&question).outcome
+        });
+        if plain.outcome != owed {
+            return Err(format!("{} but by all records {owed:?}", plain.line()));
+        }
+    }
+    Ok(())
 }
 
 /// With memo fewer demands are open at once, so 8 may become an answer; nothing else differs.

@@ -11,6 +11,8 @@ pub struct Tally {
     /// Files with a question that takes too long to resolve.
     pub given_up: u64,
     pub types: u64,
+    /// Answers of `at` where no expression is.
+    pub nones: u64,
     /// Refusals 6 to 10.
     pub refusals: [u64; 5],
 }
@@ -24,6 +26,7 @@ impl Tally {
             match fields[..] {
                 ["refused", _, _] => self.refused_files += 1,
                 [_, _, _, "type", _] => self.types += 1,
+                [_, _, _, "none"] => self.nones += 1,
                 [_, _, _, "refused", number] => {
                     let number: usize = number.parse().expect("a refusal's number");
                     self.refusals[number - 6] += 1;
@@ -34,12 +37,16 @@ impl Tally {
     }
 
     pub fn report(&self) -> String {
-        let questions = self.types + self.refusals.iter().sum::<u64>();
+        let questions = self.types + self.nones + self.refusals.iter().sum::<u64>();
+        let nones = match self.nones {
+            0 => String::new(),
+            nones => format!("{nones} none; "),
+        };
         let refusals = (6..).zip(self.refusals);
         let refusals: Vec<String> = refusals.map(|(n, c)| format!("{n}: {c}")).collect();
         format!(
             "{} files equal ({} refused, {} outside the set that the Rust is compared on); \
-             {questions} questions ({} types; refusals {}); {} files passed over as too long to \
+             {questions} questions ({} types; {nones}refusals {}); {} files passed over as too long to \
              resolve",
             self.files,
             self.refused_files,

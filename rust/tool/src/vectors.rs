@@ -118,6 +118,8 @@ mod made {
     const RECORDS: usize = 160;
     const PROGRAMS: usize = 100;
     const DAMAGED: usize = 150;
+    const AT: usize = 60;
+    const AT_DAMAGED: usize = 30;
     /// Random files are at most this long: the vectors are many, not large.
     const RANDOM_BYTES: usize = 9_000;
 
@@ -132,12 +134,18 @@ mod made {
                 answer,
             });
         }
-        let (fixed, refused) = fixed_vectors();
+        let (fixed, refused) = fixed_vectors(Kind::Edges, malformed::files());
         accepted.extend(fixed);
         accepted.extend(random("records", Kind::Records, RECORDS, true));
         accepted.extend(random("programs", Kind::Programs, PROGRAMS, true));
         let mut malformed = refused;
         malformed.extend(random("damaged", Kind::Damaged, DAMAGED, false));
+        // Those of `at` behind the others, which stay in their places.
+        let (fixed, refused) = fixed_vectors(Kind::At, malformed::files_of_at());
+        accepted.extend(fixed);
+        accepted.extend(random("at", Kind::At, AT, true));
+        malformed.extend(refused);
+        malformed.extend(random("at", Kind::At, AT_DAMAGED, false));
 
         let mut made = files("accepted", &accepted);
         made.extend(files("malformed", &malformed));
@@ -146,11 +154,12 @@ mod made {
         Ok(made)
     }
 
-    /// The fixed files that are accepted, and those that are refused.
-    fn fixed_vectors() -> (Vec<Vector>, Vec<Vector>) {
-        let fixed = generate::fixed_files(Kind::Edges);
+    /// The fixed files that are accepted, and those that are refused; with them the files with one
+    /// wrong line.
+    fn fixed_vectors(kind: Kind, wrong: Vec<Fixed>) -> (Vec<Vector>, Vec<Vector>) {
+        let fixed = generate::fixed_files(kind);
         let vector = |file: Fixed| vector(&file.name, file.text.into_bytes());
-        let all = fixed.into_iter().chain(malformed::files());
+        let all = fixed.into_iter().chain(wrong);
         let (accepted, refused): (Vec<Vector>, Vec<Vector>) = all
             .filter_map(vector)
             .partition(|vector| load(&vector.index).is_ok());

@@ -5,7 +5,7 @@
 mod common;
 
 use common::{ask, ask_bytes};
-use typetool::generate::rows;
+use typetool::generate::{at, rows};
 
 /// Every row that the Rust can answer.
 #[test]
@@ -21,6 +21,36 @@ fn rows_of_01() {
             assert!(fits, "{}: {answer:.80}, expected {expected}", row.name);
         }
     }
+}
+
+/// Each sentence about `at`.
+#[test]
+fn cases_of_at() {
+    let cases = at::cases();
+    assert_eq!(cases.len(), at::files().len());
+    for case in cases {
+        let answers = ask(&format!("index 1\n{}", case.lines));
+        assert_eq!(answers.len(), case.answers.len(), "{}", case.name);
+        for (answer, expected) in answers.iter().zip(&case.answers) {
+            let end = answer.splitn(4, ' ').last().expect("four parts");
+            let fits = end == *expected || (expected.ends_with(',') && end.starts_with(expected));
+            assert!(fits, "{}: {answer:.80}, expected {expected}", case.name);
+        }
+    }
+}
+
+/// The whole line: kind, module, position, and what is said.
+#[test]
+fn lines_of_at() {
+    let text = "index 1\nM main\nS - module\nE 0 5 8 - - plain - - bool\n\
+        E 0 20 21 - - plain - - un ! -\nQ at 0 7\nQ at 0 20\nQ at 0 4294967295\nQ at 65535 0\n";
+    let owed = [
+        "at 0 7 type bool",
+        "at 0 20 refused 6",
+        "at 0 4294967295 none",
+        "at 65535 0 none",
+    ];
+    assert_eq!(ask(text), owed);
 }
 
 /// The whole lines of the case in 01, byte for byte.

@@ -25,18 +25,29 @@ fn lines() {
 /// Each verdict is seen often enough; the same seed gives the same files.
 #[test]
 fn faults_of_every_depth() {
-    let files: Vec<Vec<u8>> = Faults::new(5).take(3_000).collect();
-    let again: Vec<Vec<u8>> = Faults::new(5).take(3_000).collect();
-    assert_eq!(files, again);
-    let share = |lead: &str| {
-        let lines = files.iter().map(|file| line(file));
-        lines.filter(|line| line.starts_with(lead)).count()
-    };
-    assert!(share("accepted\t") > 600);
-    for number in 2..=5 {
-        let count = share(&format!("refused\t{number}\t"));
-        assert!(count > 80, "{count} refused by {number}");
+    for new in [Faults::new, Faults::about_at] {
+        let files: Vec<Vec<u8>> = new(5).take(3_000).collect();
+        let again: Vec<Vec<u8>> = new(5).take(3_000).collect();
+        assert_eq!(files, again);
+        let share = |lead: &str| {
+            let lines = files.iter().map(|file| line(file));
+            lines.filter(|line| line.starts_with(lead)).count()
+        };
+        assert!(share("accepted\t") > 600);
+        for number in 2..=5 {
+            let count = share(&format!("refused\t{number}\t"));
+            assert!(count > 80, "{count} refused by {number}");
+        }
     }
+}
+
+/// Those of before ask no `at`, most of the others do.
+#[test]
+fn faults_about_at() {
+    let asks = |file: &Vec<u8>| file.windows(6).any(|bytes| bytes == b"\nQ\tat\t");
+    assert!(!Faults::new(5).take(1_000).any(|file| asks(&file)));
+    let count = Faults::about_at(5).take(1_000).filter(asks).count();
+    assert!(count > 700, "{count}");
 }
 
 #[test]
@@ -44,6 +55,7 @@ fn command() {
     let (status, counts, _) = run(&["check-index", "count", "50", "1"]);
     assert_eq!(status, 0);
     assert!(counts.starts_with("50 files: "), "{counts}");
+    assert!(counts.contains("\n6 files about `at`: "), "{counts}");
     let (status, _, error) = run(&["check-index", "run", "no-such-program", "1", "1"]);
     assert_eq!(status, 2);
     assert!(error.contains("no-such-program"), "{error}");

@@ -2,6 +2,11 @@
 
 mod common;
 
+use std::ffi::OsStr;
+use std::fs::File;
+use std::os::unix::ffi::OsStrExt;
+use std::process::{Command, Stdio};
+
 use common::run;
 
 #[test]
@@ -47,6 +52,58 @@ fn wrong_arguments() {
     fails(&["mutate"], "0 arguments instead of 1");
 }
 
+/// Status 2 and one line on standard error.
+fn fails_with_one_line(command: &mut Command, message: &str) {
+    let output = command.stderr(Stdio::piped()).spawn();
+    let output = output.and_then(std::process::Child::wait_with_output);
+    let output = output.expect("the tool runs");
+    let error = String::from_utf8_lossy(&output.stderr);
+    assert_eq!(output.status.code(), Some(2), "{error}");
+    assert!(error.contains(message), "{error}");
+    assert_eq!(error.lines().count(), 1, "{error}");
+}
+
+#[test]
+fn arguments_that_are_not_utf_8() {
+    let word = OsStr::from_bytes(b"a\xff.cm:1");
+    for words in [&["hover"][..], &["gen"], &[]] {
+        let mut command = Command::new(env!("CARGO_BIN_EXE_typetool"));
+        let command = command.args(words).arg(word);
+        fails_with_one_line(command, "\"a\\xFF.cm:1\" isn't UTF-8");
+    }
+}
+
+#[cfg(target_os = "linux")]
+#[test]
+fn output_that_cannot_be_written() {
+    let vectors = common::in_workspace("vectors/accepted-1.txt");
+    let vectors = vectors.display().to_string();
+    for words in [
+        &["--help"][..],
+        &["gen", "--help"],
+        &["gen", "records", "7"],
+        &["gen", "fixed"],
+        &["vectors", "list", &vectors],
+    ] {
+        let full = File::options().write(true).open("/dev/full");
+        let full = full.expect("it is there");
+        let mut command = Command::new(env!("CARGO_BIN_EXE_typetool"));
+        let command = command.args(words).stdout(full);
+        fails_with_one_line(command, "standard output: ");
+    }
+}
+
+#[test]
+fn a_closed_pipe_is_no_error() {
+    let (reader, writer) = std::io::pipe().expect("a pipe");
+    drop(reader);
+    let mut command = Command::new(env!("CARGO_BIN_EXE_typetool"));
+    let command = command.args(["gen", "records", "7"]).stdout(writer);
+    let output = command.output().expect("the tool runs");
+    assert_eq!(output.status.code(), Some(0));
+    assert!(output.stderr.is_empty());
+}
+
 #[test]
 fn generated_files_are_printed() {
     let (status, file, _) = run(&["gen", "records", "7"]);
@@ -57,6 +114,10 @@ fn generated_files_are_printed() {
     let (status, file, _) = run(&["gen", "fixed", "row-whole-case"]);
     assert_eq!(status, 0);
     assert!(file.ends_with("Q\texpr\t0\t1\t-\n"), "{file}");
+    assert!(names.lines().any(|name| name == "at-one-span-twice"));
+    let (status, file, _) = run(&["gen", "fixed", "at-one-span-twice"]);
+    assert_eq!(status, 0);
+    assert!(file.ends_with("Q\tat\t0\t6\n"), "{file}");
 }
 
 #[cfg(not(originals))]
@@ -65,9 +126,11 @@ fn what_needs_the_originals_says_so() {
     for arguments in [
         &["oracle"][..],
         &["export", "a.cm"],
+        &["hover", "a.cm:1"],
         &["differential", "x", "1", "1"],
         &["self-check", "1", "1"],
         &["gen", "programs", "1"],
+        &["gen", "at", "1"],
         &["vectors", "make", "a", "b"],
         &["corpus", "make", "a"],
     ] {
@@ -116,6 +179,49 @@ mod with_originals {
     }
 
     #[test]
+    fn export_and_ask_at() {
+        let text = "fn f(y: u32) -> u32 { return 1 + y; }\n";
+        let source = file("sum_at.cm", text);
+        let byte = |part: &str| text.find(part).expect("it is there");
+        let places = [byte("1"), byte("+"), byte("y;"), byte(";")];
+        let places = places.map(|byte| format!("main:{byte}"));
+        let mut arguments = vec!["export".to_string(), format!("main={source}")];
+        for place in &places {
+            arguments.extend(["--at".to_string(), place.clone()]);
+        }
+        let arguments: Vec<&str> = arguments.iter().map(String::as_str).collect();
+        let (status, index, _) = run(&arguments);
+        assert_eq!(status, 0);
+        let index = file("sum_at.idx", &index);
+        let (_, lines, _) = run(&["oracle", &index]);
+        let said: Vec<&str> = lines
+            .lines()
+            .map(|line| line.splitn(4, '\t').last().expect("four fields"))
+            .collect();
+        assert_eq!(said, ["type\tfelt", "type\tu32", "type\tu32", "none"]);
+
+        let source = format!("main={source}");
+        fails(
+            &["export", "--at", "5", &source],
+            "\"5\" isn't `MODULE:BYTE`",
+        );
+        fails(
+            &["export", "--at", "lib:5", &source],
+            "no module is named \"lib\"",
+        );
+        for byte in ["x", "", "+3", "-3", " 3", "3.0"] {
+            let place = format!("main:{byte}");
+            let message = format!("{byte:?} is no number");
+            fails(&["export", "--at", &place, &source], &message);
+        }
+        fails(&["export", &source, "--at"], "--at needs a value");
+        for byte in ["4294967296", "99999999999999999999"] {
+            let place = format!("main:{byte}");
+            fails(&["export", "--at", &place, &source], "is no position");
+        }
+    }
+
+    #[test]
     fn export_errors() {
         fails(&["export"], "no file is named");
         fails(&["export", "nowhere.cm"], "nowhere.cm: No such file");
@@ -152,6 +258,13 @@ mod with_originals {
         let (status, _, report) = run(&["differential", "--kind", "records", &equal, "20", "3"]);
         assert_eq!(status, 0, "{report}");
         assert!(report.contains("20 files equal"), "{report}");
+        let (status, _, report) = run(&["differential", "--kind", "at", &equal, "5", "3"]);
+        assert_eq!(status, 0, "{report}");
+        assert!(report.contains(" none; refusals "), "{report}");
+        let never = program("never.sh", " | sed 's/none$/refused\t6/'");
+        let (status, output, _) = run(&["differential", "--kind", "at", &never, "0", "3"]);
+        assert_eq!(status, 1);
+        assert!(output.contains("none\n--- the program's"), "{output}");
 
         let wrong = program("wrong.sh", " | sed 's/bool$/felt/'");
         let keep = PathBuf::from(env!("CARGO_TARGET_TMPDIR")).join("kept");

@@ -283,6 +283,10 @@ impl<'f, I: Iterator<Item = &'f [u8]>> Fields<I> {
                 ty: self.link()?,
                 scope: self.link()?,
             },
+            "at" => Question::At {
+                module: self.link()?,
+                position: self.position()?,
+            },
             _ => return None,
         })
     }

@@ -76,7 +76,7 @@ impl Module {
     }
 }
 
-/// An absent module, expression or definition is answered, not refused.
+/// An absent module, expression or definition is answered, not refused; a position is no link.
 fn question_links_exist(index: &Index, question: &Question) -> bool {
     match *question {
         Question::Expr {
@@ -86,7 +86,7 @@ fn question_links_exist(index: &Index, question: &Question) -> bool {
         } => index.modules.get(module).is_none_or(|module| {
             !module.has_expression(expression) || context.is_none_or(|ty| module.has_type(ty))
         }),
-        Question::Def { .. } => true,
+        Question::Def { .. } | Question::At { .. } => true,
         Question::Type { module, ty, scope } => index
             .modules
             .get(module)

@@ -1,6 +1,6 @@
 //! Arguments, taken out as they are understood.
 
-use std::io::Write;
+use std::io::{ErrorKind, Write};
 
 pub struct Arguments {
     command: String,
@@ -67,6 +67,12 @@ pub fn number(text: &str) -> Result<u64, String> {
 }
 
 /// A closed pipe is no reason to complain.
-pub fn print(bytes: &[u8]) {
-    let _ = std::io::stdout().write_all(bytes);
+pub fn print(bytes: &[u8]) -> Result<(), String> {
+    let mut out = std::io::stdout();
+    match out.write_all(bytes).and_then(|()| out.flush()) {
+        Err(error) if error.kind() != ErrorKind::BrokenPipe => {
+            Err(format!("standard output: {error}"))
+        }
+        _ => Ok(()),
+    }
 }

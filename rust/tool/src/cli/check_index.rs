@@ -29,7 +29,7 @@ pub fn run(arguments: &mut Arguments) -> CommandResult {
             let mut bytes = Vec::new();
             let read = std::io::stdin().read_to_end(&mut bytes);
             read.map_err(|error| format!("standard input: {error}"))?;
-            print(format!("{}\n", check_index::line(&bytes)).as_bytes());
+            print(format!("{}\n", check_index::line(&bytes)).as_bytes())?;
             Ok(End::Well)
         }
         _ => Err(arguments.wrong()),

@@ -9,6 +9,8 @@ mod differential;
 mod export;
 mod generate;
 mod help;
+#[cfg(originals)]
+mod hover;
 mod mutate;
 #[cfg(originals)]
 mod oracle;
@@ -61,6 +63,12 @@ const COMMANDS: &[Command] = &[
         summary: "turns Cairo-M files into an index file",
         help: help::EXPORT,
         run: with_originals!(export),
+    },
+    Command {
+        name: "hover",
+        summary: "says the type at a place of a Cairo-M file, by the proved library",
+        help: help::HOVER,
+        run: with_originals!(hover),
     },
     Command {
         name: "gen",
@@ -121,14 +129,14 @@ pub fn run(arguments: Vec<String>) -> CommandResult {
         return Err(usage());
     };
     if asks_help(name) || name == "help" {
-        arguments::print(usage().as_bytes());
+        arguments::print(usage().as_bytes())?;
         return Ok(End::Well);
     }
     let Some(command) = COMMANDS.iter().find(|command| command.name == name) else {
         return Err(format!("{name:?} is no command\n{}", usage()));
     };
     if rest.iter().any(asks_help) {
-        arguments::print(format!("{}\n", command.help).as_bytes());
+        arguments::print(format!("{}\n", command.help).as_bytes())?;
         return Ok(End::Well);
     }
     match command.run {

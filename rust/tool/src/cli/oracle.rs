@@ -26,7 +26,7 @@ pub fn run(arguments: &mut Arguments) -> CommandResult {
     let index = match load(&bytes) {
         Ok(index) => index,
         Err(refusal) => {
-            print(format!("{}\n", refusal.answer_line()).as_bytes());
+            print(format!("{}\n", refusal.answer_line()).as_bytes())?;
             return Ok(End::Well);
         }
     };
@@ -34,13 +34,13 @@ pub fn run(arguments: &mut Arguments) -> CommandResult {
         report_outside(&index);
     }
     let Some(questions) = chosen(&index, question) else {
-        print(b"refused\t5\t0\n");
+        print(b"refused\t5\t0\n")?;
         return Ok(End::Well);
     };
     let oracle = Oracle::new(&index, options);
     for question in questions {
         let answer = oracle.answer(question);
-        print(format!("{}\n", answer.line()).as_bytes());
+        print(format!("{}\n", answer.line()).as_bytes())?;
         if steps {
             let (steps, open) = (answer.steps, answer.most_open);
             eprintln!("{steps} demands, {open} open at once");

@@ -70,7 +70,7 @@ fn list(files: &[&str]) -> CommandResult {
     for file in files {
         for vector in vectors::read(Path::new(file))? {
             let (index, answer) = (vector.index.len(), vector.answer.len());
-            print(format!("{}\t{index}\t{answer}\n", vector.name).as_bytes());
+            print(format!("{}\t{index}\t{answer}\n", vector.name).as_bytes())?;
         }
     }
     Ok(End::Well)
@@ -81,8 +81,8 @@ fn show(file: &str, name: &str, part: &str) -> CommandResult {
     let found = all.iter().find(|vector| vector.name == name);
     let vector = found.ok_or_else(|| format!("{file}: no vector is named {name:?}"))?;
     match part {
-        "index" => print(&vector.index),
-        "answer" => print(&vector.answer),
+        "index" => print(&vector.index)?,
+        "answer" => print(&vector.answer)?,
         _ => return Err(format!("{part:?} is neither `index` nor `answer`")),
     }
     Ok(End::Well)

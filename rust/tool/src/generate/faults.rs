@@ -3,7 +3,7 @@
 
 use index_file::limits;
 
-use super::{Fixed, Kind, Random, damage, file, fixed_files, malformed};
+use super::{Fixed, Kind, Random, at, damage, file, fixed_files, malformed};
 use crate::originals;
 
 /// Files that the faults are made from, changed now and then.
@@ -61,20 +61,56 @@ const BYTES: &[u8] = &[
 /// An endless row of files; the same seed gives the same.
 pub struct Faults {
     random: Random,
+    /// Whether the files ask `at`.
+    asks_at: bool,
     /// The files that aren't random.
     fixed: Vec<Vec<u8>>,
     pool: Vec<Vec<u8>>,
     from_pool: usize,
 }
 
+/// Files by what they ask, of one run.
+pub struct Part {
+    /// Behind the number of files in a report.
+    pub name: &'static str,
+    pub count: u64,
+    pub files: Faults,
+}
+
+/// So many files without `at`, the same as before there was this question, and behind them an eighth of
+/// that with it.
+pub fn parts(count: u64, seed: u64) -> [Part; 2] {
+    let without = Part {
+        name: "files",
+        count,
+        files: Faults::new(seed),
+    };
+    let with = Part {
+        name: "files about `at`",
+        count: count / 8,
+        files: Faults::about_at(seed),
+    };
+    [without, with]
+}
+
 impl Faults {
+    /// None of them asks `at`, but by chance.
     pub fn new(seed: u64) -> Self {
-        let bytes = |file: Fixed| file.text.into_bytes();
         let fixed = fixed_files(Kind::Edges).into_iter();
-        let fixed = fixed.chain(malformed::files()).map(bytes);
+        Self::with(seed, false, fixed.chain(malformed::files()))
+    }
+
+    /// Most of them ask `at`.
+    pub fn about_at(seed: u64) -> Self {
+        let fixed = fixed_files(Kind::At).into_iter();
+        Self::with(seed, true, fixed.chain(malformed::files_of_at()))
+    }
+
+    fn with(seed: u64, asks_at: bool, fixed: impl Iterator<Item = Fixed>) -> Self {
         Self {
             random: Random::new(seed),
-            fixed: fixed.collect(),
+            asks_at,
+            fixed: fixed.map(|file| file.text.into_bytes()).collect(),
             pool: Vec::new(),
             from_pool: FILES_OF_A_POOL,
         }
@@ -88,7 +124,11 @@ impl Faults {
                 0..3 if has_programs => Kind::Programs,
                 _ => Kind::Records,
             };
-            self.pool.push(file(kind, self.random.number()));
+            let whole = file(kind, self.random.number());
+            self.pool.push(match self.asks_at {
+                true => at::asked(&mut self.random, &whole),
+                false => whole,
+            });
         }
         self.from_pool = 0;
     }
@@ -116,6 +156,7 @@ impl Iterator for Faults {
             65..70 => ending(random, whole),
             70..78 => bytes(random, whole),
             78..80 => long_digits(random, whole),
+            _ if self.asks_at => damage::damage_at(random, whole),
             _ => damage::damage(random, whole),
         })
     }

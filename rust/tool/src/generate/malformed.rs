@@ -50,6 +50,9 @@ const LINES: &[&str] = &[
     "Q type 0 1 1",
 ];
 
+/// Those of the question `at`: of a module that is there, and of the last numbers that there are.
+const LINES_OF_AT: &[&str] = &["Q at 0 7", "Q at 65535 4294967295"];
+
 /// What stands in a number's place, `-` included. The small ones are links just past the last record
 /// in some fields and right in others.
 const NUMBERS: &[&str] = &[
@@ -204,13 +207,21 @@ pub fn files() -> Vec<Fixed> {
         name: format!("wrong-{name}"),
         text: text.replace(' ', "\t"),
     });
-    let mut files: Vec<Fixed> = whole.collect();
-    for line in LINES {
+    whole.chain(changed_lines(LINES)).collect()
+}
+
+/// The same for the question `at`, by themselves: the others stay what they were.
+pub fn files_of_at() -> Vec<Fixed> {
+    changed_lines(LINES_OF_AT).collect()
+}
+
+fn changed_lines(lines: &'static [&'static str]) -> impl Iterator<Item = Fixed> {
+    lines.iter().flat_map(|line| {
         let form = line.replace(' ', "_");
-        files.extend(variants(line).into_iter().map(|(name, changed)| Fixed {
+        let variants = variants(line).into_iter();
+        variants.map(move |(name, changed)| Fixed {
             name: format!("wrong-{form}-{name}"),
             text: with_line(&changed),
-        }));
-    }
-    files
+        })
+    })
 }

@@ -1,5 +1,6 @@
 //! Seeded generators of index files. The same seed gives the same bytes everywhere.
 
+pub mod at;
 pub mod corners;
 pub mod damage;
 pub mod depths;
@@ -27,6 +28,9 @@ pub enum Kind {
     Edges,
     /// Copies of the others with small damages.
     Damaged,
+    /// The question `at`: copies of records and programs that ask it, some of them damaged. It isn't
+    /// among the mixed ones, which stay what they were before there was `at`.
+    At,
     Mixed,
 }
 
@@ -38,15 +42,16 @@ impl Kind {
             "programs" => Self::Programs,
             "edges" => Self::Edges,
             "damaged" => Self::Damaged,
+            "at" => Self::At,
             "mixed" => Self::Mixed,
             _ => {
                 return Err(format!(
-                    "{name:?} is no kind of file; the kinds are records, programs, edges, damaged \
-                     and mixed"
+                    "{name:?} is no kind of file; the kinds are records, programs, edges, damaged, \
+                     at and mixed"
                 ));
             }
         };
-        if matches!(kind, Self::Programs | Self::Damaged | Self::Mixed) {
+        if !matches!(kind, Self::Records | Self::Edges) {
             originals::needed_for(&format!("files of kind {name}"))?;
         }
         Ok(kind)
@@ -62,13 +67,23 @@ pub struct Fixed {
 
 /// All files of the kind that aren't random.
 pub fn fixed_files(kind: Kind) -> Vec<Fixed> {
-    if !matches!(kind, Kind::Edges | Kind::Mixed) {
-        return Vec::new();
+    match kind {
+        Kind::Edges | Kind::Mixed => {
+            let mut files = rows::files();
+            files.extend(corners::files());
+            files.extend(depths::files());
+            files.extend(edges::files());
+            files
+        }
+        Kind::At => at::files(),
+        Kind::Records | Kind::Programs | Kind::Damaged => Vec::new(),
     }
-    let mut files = rows::files();
-    files.extend(corners::files());
-    files.extend(depths::files());
-    files.extend(edges::files());
+}
+
+/// All files that aren't random and have a right form.
+pub fn all_fixed_files() -> Vec<Fixed> {
+    let mut files = fixed_files(Kind::Edges);
+    files.extend(fixed_files(Kind::At));
     files
 }
 
@@ -90,6 +105,18 @@ pub fn file(kind: Kind, seed: u64) -> Vec<u8> {
             };
             let whole = file(kind, random.number());
             damage::damage(&mut random, whole)
+        }
+        Kind::At => {
+            let kind = match random.below(10) {
+                0..6 => Kind::Records,
+                _ => Kind::Programs,
+            };
+            let whole = file(kind, random.number());
+            let asked = at::asked(&mut random, &whole);
+            match random.percent(20) {
+                true => damage::damage_at(&mut random, asked),
+                false => asked,
+            }
         }
         Kind::Mixed => {
             let kind = match random.below(100) {

@@ -25,7 +25,8 @@ pub fn module(index: &mut Index, number: usize) -> Option<()> {
     for question in &mut index.questions {
         let (Question::Expr { module, .. }
         | Question::Def { module, .. }
-        | Question::Type { module, .. }) = question;
+        | Question::Type { module, .. }
+        | Question::At { module, .. }) = question;
         if *module > number {
             *module -= 1;
         }
