@@ -1,4 +1,6 @@
 // The public entries: a file is loaded, its questions are resolved, and their answer lines are written into a lent buffer.
+#![tactic(auto)]
+
 ghost use Rattle.std.specs.Prelude.{◌≡◌, ◌≤◌, ◌<◌, length};
 ghost use Rattle.records.specs.Layout.{index_of};
 ghost use Rattle.resolution.specs.Answer.{type_text, Verdict, text_verdict, asked_lead};
@@ -21,7 +23,7 @@ use views::{Asked, FoundAsked};
 
 // One line's answer: it stands at the start of the answer buffer, with its length; refusal 6 to 10, with how many bytes the answer buffer holds for it
 // from its start, none; the question has no line of that number; or refusal 1 to 5 with its line, 0 where no line is at fault.
-#[derive(Drop)]
+#[derive(Clone, Copy)]
 pub enum LineAnswer {
     Line(usize),
     Refused(u32, usize),
@@ -31,7 +33,7 @@ pub enum LineAnswer {
 
 // The lines of many questions: the first line that no longer fits, by the numbers of its question and its own, and how many bytes are written;
 // all lines up to the last question's, and how many bytes; or refusal 1 to 5 with its line.
-#[derive(Drop)]
+#[derive(Clone, Copy)]
 pub enum LinesAnswer {
     More(u32, u32, usize),
     End(usize),
@@ -39,7 +41,7 @@ pub enum LinesAnswer {
 }
 
 // What became of a line.
-#[derive(Drop)]
+#[derive(Clone, Copy)]
 pub enum Step {
     Line(usize),
     NoRoom,

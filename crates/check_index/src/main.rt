@@ -1,5 +1,7 @@
 // Loads the index file on standard input and writes one line: `accepted` and how many modules, scopes, type expressions, definitions,
 // expressions, questions and items it has, or `refused`, the refusal's number and its line; parted by tabs.
+#![tactic(auto)]
+
 ghost use Rattle.std.specs.Prelude.{◌≡◌, ◌+◌, ◌≤◌, [], ◌∷◌, ◌++◌, length, take};
 ghost use Rattle.io.specs.Counts.{IsPrefixLen};
 ghost use Rattle.check_index.specs.Line.{counted, counts, row_total, accepted_line, refused_line, line_of, loading_line};

@@ -1,4 +1,6 @@
 // Whether a type may stand where another is expected, and the types of operators.
+#![tactic(auto)]
+
 ghost use Rattle.std.specs.Prelude.{◌≡◌, ◌*◌, ◌<◌, ◌&&◌, ◌||◌, eqb, length};
 ghost use Rattle.records.specs.Meaning.{unary_op_of, binary_op_of};
 ghost use Rattle.resolution.specs.TableOk.{TableOk};
@@ -226,11 +228,11 @@ const BITWISE_OR: u32 = 14;
 const BITWISE_XOR: u32 = 15;
 
 // Operator, operand, result.
-#[derive(Drop)]
+#[derive(Clone, Copy)]
 pub struct UnaryRow(pub u32, pub u32, pub u32);
 
 // Operator, left, right, result.
-#[derive(Drop)]
+#[derive(Clone, Copy)]
 pub struct BinaryRow(pub u32, pub u32, pub u32, pub u32);
 
 const UNARY_ROWS: [UnaryRow; 3] = [

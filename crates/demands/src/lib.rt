@@ -1,4 +1,6 @@
 // The list of open demands: a lent slice of 256 places. Any words of a place stand for some demand: see specs/Meaning.antt.
+#![tactic(auto)]
+
 ghost use Rattle.std.specs.Prelude.{◌≡◌, ◌≤◌, length, set};
 ghost use Rattle.model.specs.Common.{eq_numbers};
 ghost use Rattle.resolution.specs.Programs.{Demand};
@@ -23,7 +25,7 @@ const KIND_STRUCT: u32 = 3;
 const KIND_SIGNATURE: u32 = 4;
 
 // A demand with its kind, its module, its record, whether it has a context, and its scope or context.
-#[derive(Drop)]
+#[derive(Clone, Copy)]
 pub struct OpenDemand {
     pub kind: u32,
     pub module_number: u32,
@@ -36,7 +38,7 @@ pub struct OpenDemand {
 pub type Place = [u32; 5];
 
 // A demand that was entered: the number of open ones with it, or the refusal's number.
-#[derive(Drop)]
+#[derive(Clone, Copy)]
 pub enum Entered {
     At(usize),
     Refused(u32),

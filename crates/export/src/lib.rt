@@ -1,5 +1,7 @@
 // Answering and the check of a file for programs in other languages: `rt staticlib export` makes libexport.a. A slice is a pointer and a length
 // there, a result one number of 64 bits: its kind, a number of 16 bits and one of 32 bits.
+#![tactic(auto)]
+
 ghost use Rattle.std.specs.Prelude.{◌≡◌};
 ghost use Rattle.answers.specs.Promises.{buffers};
 ghost use Rattle.export.specs.Numbers.{packed_number, LoadedPacked, LinePacked, LinesPacked};

@@ -1,4 +1,6 @@
 // The fields of a line: each is read once, by its kind, and gives its value and where it ends.
+#![tactic(auto)]
+
 ghost use Rattle.std.specs.Prelude.{◌≡◌, ◌+◌, ◌≤◌, length, drop};
 ghost use Rattle.model.specs.Common.{is_empty};
 ghost use Rattle.format.specs.Fields.{field_of, is_dash, number_of, numbered, name_value, value_of, is_nothing, slot};
@@ -10,7 +12,7 @@ use format::Kind;
 use words::{Found, field_end, find_word};
 
 // What a field holds: a text is where it begins and how long it is.
-#[derive(Drop)]
+#[derive(Clone, Copy)]
 pub enum Value {
     Absent,
     Number(u64),
@@ -18,14 +20,14 @@ pub enum Value {
 }
 
 // A field that was read, and where it ends.
-#[derive(Drop)]
+#[derive(Clone, Copy)]
 pub enum Slot {
     Is(Value, usize),
     Wrong,
 }
 
 // A word that stands behind a tab: where it begins and where it ends.
-#[derive(Drop)]
+#[derive(Clone, Copy)]
 pub enum Word {
     Is(usize, usize),
     Wrong,

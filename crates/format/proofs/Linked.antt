@@ -61,6 +61,7 @@ map_from_at test k (y ∷ ys) (suc n) x (p, h) e =
 
 pub below_of : (n k : ℕ) (ks : List ℕ) → all_below n ks ≡ true → Memᴰ k ks → k < n
 unfolding all_below
+below_of n k [] h named = elim named [ ]
 below_of n k (j ∷ ks) h named = at (ltb j n) refl h named (λ g m. below_of n k ks g m)
   where
     at : (b : Bool) → ltb j n ≡ b → elim b [ true ↦ all_below n ks | false ↦ false ] ≡ true → Memᴰ k (j ∷ ks)

@@ -1,7 +1,8 @@
 // The words of the index file's format, which the definitions in specs/ and the loader share.
+#![tactic(auto)]
 
 // What a line is, by its first field.
-#[derive(Drop)]
+#[derive(Clone, Copy)]
 pub enum LineWord {
     M,
     S,
@@ -13,7 +14,7 @@ pub enum LineWord {
 }
 
 // What a field of a line holds. `Nothing` reads no field.
-#[derive(Drop)]
+#[derive(Clone, Copy)]
 pub enum Kind {
     Nothing,
     // A link, a count or an index: a number below 65,536.
@@ -32,7 +33,7 @@ pub enum Kind {
 }
 
 // What the list at a line's end holds. `Empty` is no list.
-#[derive(Drop)]
+#[derive(Clone, Copy)]
 pub enum Listed {
     Empty,
     Numbers,
@@ -42,7 +43,7 @@ pub enum Listed {
 }
 
 // What stands behind a word: at most three fields, and a list.
-#[derive(Drop)]
+#[derive(Clone, Copy)]
 pub struct Shape {
     pub a: Kind,
     pub b: Kind,
@@ -50,7 +51,7 @@ pub struct Shape {
     pub list: Listed,
 }
 
-#[derive(Drop)]
+#[derive(Clone, Copy)]
 pub enum ScopeWord {
     Module,
     Function,
@@ -59,7 +60,7 @@ pub enum ScopeWord {
     Other,
 }
 
-#[derive(Drop)]
+#[derive(Clone, Copy)]
 pub enum TypeWord {
     Felt,
     Bool,
@@ -71,7 +72,7 @@ pub enum TypeWord {
     Other,
 }
 
-#[derive(Drop)]
+#[derive(Clone, Copy)]
 pub enum DefinitionWord {
     Fn,
     Struct,
@@ -83,7 +84,7 @@ pub enum DefinitionWord {
     Other,
 }
 
-#[derive(Drop)]
+#[derive(Clone, Copy)]
 pub enum OriginWord {
     Plain,
     Field,
@@ -94,7 +95,7 @@ pub enum OriginWord {
     Other,
 }
 
-#[derive(Drop)]
+#[derive(Clone, Copy)]
 pub enum NodeWord {
     Lit,
     Bool,
@@ -115,7 +116,7 @@ pub enum NodeWord {
     Other,
 }
 
-#[derive(Drop)]
+#[derive(Clone, Copy)]
 pub enum QuestionWord {
     Expr,
     Def,

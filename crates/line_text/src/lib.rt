@@ -1,4 +1,6 @@
 // The bytes of an answer line, written into a lent buffer: the lead fields, and behind them a type, a word or a refusal.
+#![tactic(auto)]
+
 ghost use Rattle.std.specs.Prelude.{◌≤◌, ◌++◌, length};
 ghost use Rattle.model.specs.Common.{bytes};
 ghost use Rattle.resolution.specs.Answer.{decimal, type_text, Verdict, text_verdict, asked_lead};
@@ -12,7 +14,7 @@ use type_text::TypeText;
 use views::Asked;
 
 // What became of what is asked: its line is written, it is refused, or its line has no room.
-#[derive(Drop)]
+#[derive(Clone, Copy)]
 pub enum Tried {
     Line(usize),
     Refused(u32),
@@ -20,7 +22,7 @@ pub enum Tried {
 }
 
 // What became of a line: it is written, with its length, or it has no room.
-#[derive(Drop)]
+#[derive(Clone, Copy)]
 pub enum Written {
     Line(usize),
     NoRoom,

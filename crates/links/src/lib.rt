@@ -1,4 +1,6 @@
 // Whether the links of the rows of a loaded index lead to records. What each kind of row must keep is in format's specs/LinkCheck.antt.
+#![tactic(auto)]
+
 ghost use Rattle.std.specs.Prelude.{◌≡◌, ℕ, ◌+◌, not, List, ◌++◌, map};
 ghost use Rattle.model.specs.Common.{first};
 ghost use Rattle.model.specs.Records as model;
@@ -19,14 +21,14 @@ use records::{
 };
 
 // The place of the first line whose links don't lead, counted from 0.
-#[derive(Drop)]
+#[derive(Clone, Copy)]
 pub enum Fault {
     At(usize),
     Nothing,
 }
 
 // The number of a module's first row of a kind whose links don't lead.
-#[derive(Drop)]
+#[derive(Clone, Copy)]
 enum RowFault {
     At(u32),
     Nothing,

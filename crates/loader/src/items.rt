@@ -8,14 +8,14 @@ use crate::values::SlotWords;
 use format::{Kind, Listed};
 
 // An item's two words, and where it ends.
-#[derive(Drop)]
+#[derive(Clone, Copy)]
 pub enum ItemWords {
     Are(u32, u32, usize),
     Wrong,
 }
 
 // How many items there are, and where they end.
-#[derive(Drop)]
+#[derive(Clone, Copy)]
 pub enum ItemsRead {
     Are(usize, usize),
     Wrong,

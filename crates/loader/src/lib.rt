@@ -1,5 +1,7 @@
 // Loading an index file: any bytes become the record words of crates/records, or a refusal with its line. The modules are
 // private to the crate: what their functions ask for `load` has tested, or the function before them gives it.
+#![tactic(auto)]
+
 mod items;
 mod lines;
 mod pass;
@@ -19,7 +21,7 @@ use pass::First;
 use words::Version;
 
 // What loading ends in: a refusal has its number and its line, line 0 where no line is at fault.
-#[derive(Drop)]
+#[derive(Clone, Copy)]
 pub enum Loaded {
     Accepted,
     Refused(u32, u32),

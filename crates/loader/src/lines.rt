@@ -10,7 +10,7 @@ use crate::{items, rows};
 use format::LineWord;
 
 // A refusal's number, or what is counted then and where the next line begins.
-#[derive(Drop)]
+#[derive(Clone, Copy)]
 pub enum Step {
     Refuse(u32),
     Go(Counts, usize),

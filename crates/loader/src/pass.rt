@@ -8,7 +8,7 @@ use crate::rows::Counts;
 use crate::{lines, rows};
 
 // What the pass ends in: all lines read, or a refusal with its line.
-#[derive(Drop)]
+#[derive(Clone, Copy)]
 pub enum First {
     Read,
     Wrong(u32, u32),

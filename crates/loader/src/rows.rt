@@ -13,7 +13,7 @@ use fields::Word;
 use format::{Kind, ScopeWord, Shape};
 
 // What was read: the stage of the last line, and how many records of each kind and items there are.
-#[derive(Drop)]
+#[derive(Clone, Copy)]
 pub struct Counts {
     pub stage: u32,
     pub modules: usize,
@@ -26,7 +26,7 @@ pub struct Counts {
 }
 
 // What stands behind a word: three fields' words, the list's word and how many items it has, and where all that ends.
-#[derive(Drop)]
+#[derive(Clone, Copy)]
 pub struct Tail {
     pub a: u64,
     pub b: u64,
@@ -36,14 +36,14 @@ pub struct Tail {
     pub end: usize,
 }
 
-#[derive(Drop)]
+#[derive(Clone, Copy)]
 pub enum TailRead {
     Is(Tail),
     Wrong,
 }
 
 // A line that was read: how many items its list has, and where its fields end.
-#[derive(Drop)]
+#[derive(Clone, Copy)]
 pub enum LineRead {
     Is(usize, usize),
     Wrong,
@@ -326,7 +326,7 @@ pub fn read_question(file: &[u8], at: usize, words: &mut [u32], n: Counts) -> Li
 }
 
 // E, behind its head: the origin's number, link and value, and where they end.
-#[derive(Drop)]
+#[derive(Clone, Copy)]
 pub enum OriginRead {
     Is(u32, u32, u32, usize),
     Wrong,

@@ -11,14 +11,14 @@ use format::Kind;
 pub const HIGH: u64 = 4294967296;
 
 // A field's words as one number, the low word first, and where the field ends. Only an array's size has a high word.
-#[derive(Drop)]
+#[derive(Clone, Copy)]
 pub enum SlotWords {
     Are(u64, usize),
     Wrong,
 }
 
 // Three fields' words, and where the last ends.
-#[derive(Drop)]
+#[derive(Clone, Copy)]
 pub enum ThreeWords {
     Are(u64, u64, u64, usize),
     Wrong,

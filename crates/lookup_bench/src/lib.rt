@@ -2,6 +2,8 @@
 // liblookup_bench.a, which isn't shipped. (The shipped library is that of the crate `export`; no function there is given record words to look
 // things up in.) A slice is a pointer and a length there, a name is its first byte's place in the file and its length, and a link is 0 for none,
 // else the number and 1.
+#![tactic(auto)]
+
 ghost use Rattle.std.specs.Prelude.{◌≡◌, ℕ, List};
 ghost use Rattle.model.specs.Lookups.{module_at, module_by_name, latest_definition_index_by_name_in_chain};
 ghost use Rattle.model.specs.Lookups.{resolve_name_at_position, definition_for_identifier_expr, first_function_around};

@@ -28,6 +28,7 @@ module _ {A B : Type 0} (f : A → Option B) where
   -- and each that is given for one of the list was collected
   pub collected_there : (xs : List A) {x : A} {y : B} → Memᴰ x xs → f x ≡ some y → (n : ℕ) × (get_elem? (collect f xs) n ≡ some y)
   unfolding collect
+  collected_there [] {y = y} x4 h = elim x4 [ ]
   collected_there (x ∷ xs) {y = y} (Memᴰ.head e) h =
       (0, ap (λ o. get_elem? (let_some o (collect f xs) (λ z. z ∷ collect f xs)) 0) (ap f (sym e) ∙ h))
   collected_there (x ∷ xs) {y = y} (Memᴰ.tail mem) h = go (f x) (collected_there xs mem h)

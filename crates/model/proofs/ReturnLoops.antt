@@ -32,6 +32,7 @@ or_split false b e f = e
 
 among_member : (n turn : ℕ) (rest : List ℕ) → Member turn rest → eqb n turn ≡ true → among n rest ≡ true
 unfolding among any
+among_member n turn [] x'' h = elim x'' [ ]
 among_member n turn (s ∷ rest) (here e) h = ap (λ r. eqb n r || any (eqb n) rest) (sym e) ∙ ap (λ b. b || any (eqb n) rest) h
 among_member n turn (s ∷ rest) (later m) h = or_right (eqb n s) (any (eqb n) rest) (among_member n turn rest m h)
 

@@ -40,6 +40,9 @@ pub same : {A : Type 0} {kind place : ℕ} {x : A} → kind ≡ place → x ≡ 
 same h = refl
 
 agree_from : {A : Type 0} (place kind k : ℕ) (xs ys : List A) (last : A) → kind ≡ place + k → AgreeFrom kind place xs ys → get_or xs k last ≡ get_or ys k last
+agree_from {A = A} place kind k [] (y ∷ ys) last e x4 = elim x4 [ ]
+agree_from {A = A} place kind zero (x ∷ xs) [] last e x6 = elim x6 [ ]
+agree_from {A = A} place kind (suc k) (x ∷ xs) [] last e x7 = elim x7 [ ]
 agree_from place kind k [] [] last e no_more = refl
 agree_from place kind zero (x ∷ xs) (y ∷ ys) last e (h and rest) = h (e ∙ add-zero place)
 agree_from place kind (suc k) (x ∷ xs) (y ∷ ys) last e (h and rest) = agree_from (suc place) kind k xs ys last (e ∙ over place k) rest

@@ -1,4 +1,6 @@
 // The records of a loaded index, read from the record words. Any words hold some index: see specs/Layout.antt.
+#![tactic(auto)]
+
 ghost use Rattle.std.specs.Prelude.{◌≡◌, ℕ, ◌+◌, List, length};
 ghost use Rattle.std.proofs.Math.Option.{none, some};
 ghost use Rattle.std.proofs.Math.ListN.{get_elem?};
@@ -20,63 +22,63 @@ ghost use Rattle.records.specs.Meaning.{found_expression_of, found_question_of, 
 ghost use Rattle.records.specs.Meaning.{name_with_type_item_of};
 
 // The three index types of the Rust. Each is the record's number within its module.
-#[derive(Drop)]
+#[derive(Clone, Copy)]
 pub struct FileScopeId(pub u32);
 
-#[derive(Drop)]
+#[derive(Clone, Copy)]
 pub struct DefinitionIndex(pub u32);
 
-#[derive(Drop)]
+#[derive(Clone, Copy)]
 pub struct ExpressionId(pub u32);
 
 // A name is a part of the file.
-#[derive(Drop)]
+#[derive(Clone, Copy)]
 pub struct Name {
     pub start: u32,
     pub length: u32,
 }
 
 // A list is a range of item rows.
-#[derive(Drop)]
+#[derive(Clone, Copy)]
 pub struct Items {
     pub first: u32,
     pub count: u32,
 }
 
 // Links that may be absent.
-#[derive(Drop)]
+#[derive(Clone, Copy)]
 pub enum ScopeLink {
     Absent,
     To(FileScopeId),
 }
 
-#[derive(Drop)]
+#[derive(Clone, Copy)]
 pub enum TypeLink {
     Absent,
     To(u32),
 }
 
-#[derive(Drop)]
+#[derive(Clone, Copy)]
 pub enum DefinitionLink {
     Absent,
     To(DefinitionIndex),
 }
 
-#[derive(Drop)]
+#[derive(Clone, Copy)]
 pub enum ExpressionLink {
     Absent,
     To(ExpressionId),
 }
 
 // The suffix of a literal.
-#[derive(Drop)]
+#[derive(Clone, Copy)]
 pub enum Suffix {
     Absent,
     Named(Name),
 }
 
 // A scope, with the names of place.rs.
-#[derive(Drop)]
+#[derive(Clone, Copy)]
 pub enum ScopeKind {
     Module,
     Function,
@@ -84,14 +86,14 @@ pub enum ScopeKind {
     Loop,
 }
 
-#[derive(Drop)]
+#[derive(Clone, Copy)]
 pub struct Scope {
     pub parent: ScopeLink,
     pub kind: ScopeKind,
 }
 
 // A type expression; t is a number.
-#[derive(Drop)]
+#[derive(Clone, Copy)]
 pub enum TypeExpr {
     Felt,
     Bool,
@@ -103,7 +105,7 @@ pub enum TypeExpr {
 }
 
 // A definition, with the names of definition.rs. The lists are fields, parameters and the path of a destructured value.
-#[derive(Drop)]
+#[derive(Clone, Copy)]
 pub enum DefinitionKind {
     Function(u32, Items),
     Struct(Items),
@@ -114,7 +116,7 @@ pub enum DefinitionKind {
     LoopVariable,
 }
 
-#[derive(Drop)]
+#[derive(Clone, Copy)]
 pub struct Definition {
     pub scope: FileScopeId,
     pub name: Name,
@@ -126,7 +128,7 @@ pub struct Definition {
 }
 
 // An expression, with the names of semantic_index.rs: its origin and its node, whose lists are ranges of item rows.
-#[derive(Drop)]
+#[derive(Clone, Copy)]
 pub enum Origin {
     Plain,
     StructField(ExpressionId, Name),
@@ -136,13 +138,13 @@ pub enum Origin {
     Condition,
 }
 
-#[derive(Drop)]
+#[derive(Clone, Copy)]
 pub enum UnaryOp {
     Not,
     Neg,
 }
 
-#[derive(Drop)]
+#[derive(Clone, Copy)]
 pub enum BinaryOp {
     Add,
     Sub,
@@ -162,7 +164,7 @@ pub enum BinaryOp {
     BitwiseXor,
 }
 
-#[derive(Drop)]
+#[derive(Clone, Copy)]
 pub enum Expression {
     Literal(Suffix),
     BooleanLiteral,
@@ -182,7 +184,7 @@ pub enum Expression {
     Parenthesized(ExpressionLink),
 }
 
-#[derive(Drop)]
+#[derive(Clone, Copy)]
 pub struct ExpressionInfo {
     pub scope: FileScopeId,
     pub start: u32,
@@ -194,7 +196,7 @@ pub struct ExpressionInfo {
 }
 
 // A question names its module, and then its record and its context or scope, or a position.
-#[derive(Drop)]
+#[derive(Clone, Copy)]
 pub enum Question {
     Expr(u32, ExpressionId, TypeLink),
     Def(u32, DefinitionIndex),
@@ -203,57 +205,57 @@ pub enum Question {
 }
 
 // A record by number, or none where there is no such record.
-#[derive(Drop)]
+#[derive(Clone, Copy)]
 pub enum FoundScope {
     Absent,
     Found(Scope),
 }
 
-#[derive(Drop)]
+#[derive(Clone, Copy)]
 pub enum FoundTypeExpr {
     Absent,
     Found(TypeExpr),
 }
 
-#[derive(Drop)]
+#[derive(Clone, Copy)]
 pub enum FoundDefinition {
     Absent,
     Found(Definition),
 }
 
-#[derive(Drop)]
+#[derive(Clone, Copy)]
 pub enum FoundExpression {
     Absent,
     Found(ExpressionInfo),
 }
 
-#[derive(Drop)]
+#[derive(Clone, Copy)]
 pub enum FoundQuestion {
     Absent,
     Found(Question),
 }
 
 // An item of a list by place, or none past its end.
-#[derive(Drop)]
+#[derive(Clone, Copy)]
 pub enum NumberItem {
     Absent,
     Found(u32),
 }
 
-#[derive(Drop)]
+#[derive(Clone, Copy)]
 pub enum LinkItem {
     Absent,
     Found(ExpressionLink),
 }
 
-#[derive(Drop)]
+#[derive(Clone, Copy)]
 pub enum NameWithTypeItem {
     Absent,
     Found(Name, u32),
 }
 
 // A module's rows of one kind: where they begin, and how many there are.
-#[derive(Drop)]
+#[derive(Clone, Copy)]
 pub struct Rows {
     pub first: u32,
     pub count: u32,

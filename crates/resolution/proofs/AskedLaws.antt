@@ -118,6 +118,7 @@ AskedNumbers (Asked.type m t s) = (m ≤ max_number) × (t ≤ max_number)
 AskedNumbers (Asked.at m position) = (m ≤ max_number) × (position ≤ max_position)
 
 one_numbers : (other asked : Asked) → Memᴰ asked (other ∷ []) → AskedNumbers other → AskedNumbers asked
+one_numbers other asked (mathlib.Core.List.Memᴰ.tail x5) h = elim x5 [ ]
 one_numbers other asked (Memᴰ.head is) h = subst AskedNumbers (sym is) h
 
 pub asked_numbers : (index : Index) → WellFormed index → (question : Question) → QuestionNumbers question

@@ -41,8 +41,8 @@ scope_below index m s k (scope, found) less =
 -- where what is outside in the second index stands outside in the first, the first body has no lower number
 not_lower : (A B : Index) (a b : Body) (asked : Asked) → WellFormed B → IsBody B b → StandsIn B b A a asked
     → a.module_number ≡ b.module_number → a.scope_number < b.scope_number → ⊥
-not_lower A B a b asked formed is_IsBody stands one_module less =
-    let (scope, found) = scope_below B b.module_number b.scope_number a.scope_number (is_IsBody.scope, is_IsBody.found) less in
+not_lower A B a b asked formed is_body stands one_module less =
+    let (scope, found) = scope_below B b.module_number b.scope_number a.scope_number (is_body.scope, is_body.found) less in
     let (there, out) =
     stands.scopes b.module_number a.scope_number
     (record {

@@ -22,6 +22,7 @@ use Rattle.resolution.specs.Secrecy.{NoOutsideLiteralInBinary}
 -- ------------------------------------------------------------------ lists
 
 every_of : {A : Type 0} (test : A → Bool) (xs : List A) (x : A) → every test xs ≡ true → Memᴰ x xs → test x ≡ true
+every_of {A = A} test [] x h x4 = elim x4 [ ]
 every_of test (y ∷ ys) x h (Memᴰ.head e) = ap test e ∙ and_left (test y) (every test ys) h
 every_of test (y ∷ ys) x h (Memᴰ.tail named) = every_of test ys x (and_right (test y) (every test ys) h) named
 

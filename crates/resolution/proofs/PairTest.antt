@@ -133,8 +133,8 @@ unfolding asked_test outside_of
 supposed A B a b types A_tested B_tested same asked A_asked B_asked =
     let listed_types = and_right (about_test A a asked) _ A_asked in
     record {
-      first_is_body = A_tested.is_IsBody;
-      second_is_body = B_tested.is_IsBody;
+      first_is_body = A_tested.is_body;
+      second_is_body = B_tested.is_body;
       agree =
           record {
             one_version = ap (λ o. o.version) same;

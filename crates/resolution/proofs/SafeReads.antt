@@ -27,7 +27,7 @@ abbrev pub AllBelow : Table → List ℕ → Type 0
 AllBelow table ts = (t : ℕ) → Memᴰ t ts → Below table t
 
 pub all_nil : (table : Table) → AllBelow table []
-all_nil table t named = absurd (Memᴰ.not_nil named)
+all_nil table t named = absurd (Memᴰ.not-nil named)
 
 pub all_cons : (table : Table) (t : ℕ) (ts : List ℕ) → Below table t → AllBelow table ts → AllBelow table (t ∷ ts)
 all_cons table t ts h g u (Memᴰ.head e) = subst (Below table) (sym e) h

@@ -134,14 +134,14 @@ IsModuleScope ScopeKind.LoopScope = ⊥
 
 pub root_outside : (index : Index) (body : Body) → WellFormed index → IsBody index body → (m s : ℕ) (scope : Scope)
     → scope_in index m s ≡ some scope → scope.parent ≡ none → Inside index body m s → ⊥
-root_outside index body formed is_IsBody m s scope e root (body_scope m_is s_is) =
+root_outside index body formed is_body m s scope e root (body_scope m_is s_is) =
     subst IsModuleScope
-    (sym (formed.root_kind m s scope e root) ∙ ap (λ r. r.kind) (some-injective (sym e ∙ here)) ∙ is_IsBody.is_function)
+    (sym (formed.root_kind m s scope e root) ∙ ap (λ r. r.kind) (some-injective (sym e ∙ here)) ∙ is_body.is_function)
     tt
   where
-    here : scope_in index m s ≡ some is_IsBody.scope
-    here = (λ i. scope_in index (m_is i) (s_is i)) ∙ is_IsBody.found
-root_outside index body formed is_IsBody m s scope e root (below e' has_parent inside) =
+    here : scope_in index m s ≡ some is_body.scope
+    here = (λ i. scope_in index (m_is i) (s_is i)) ∙ is_body.found
+root_outside index body formed is_body m s scope e root (below e' has_parent inside) =
     none≢some (sym root ∙ ap (λ r. r.parent) (some-injective (sym e ∙ e')) ∙ has_parent)
 
 -- a module with its name

@@ -24,7 +24,7 @@ unfolding data_of row_types
 inner_lower {table} ok t u named =
     ⊎_elim
     (λ e. ok.lower t u (get_or table t TypeData.Error) e named)
-    (λ e. absurd (Memᴰ.not_nil (subst (λ row. Memᴰ u (row_types row)) e named)))
+    (λ e. absurd (Memᴰ.not-nil (subst (λ row. Memᴰ u (row_types row)) e named)))
     (getD_cases table t TypeData.Error)
 
 -- ------------------------------------------------------------------ compatibility

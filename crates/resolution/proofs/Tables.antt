@@ -47,7 +47,7 @@ unfolding data_of row_types
 inner_below {table} ok t u named =
     ⊎_elim
     (λ e. le_trans (ok.lower t u (get_or table t TypeData.Error) e named) (le_of_lt (getElem_below table t e)))
-    (λ e. absurd (Memᴰ.not_nil (subst (λ row. Memᴰ u (row_types row)) e named)))
+    (λ e. absurd (Memᴰ.not-nil (subst (λ row. Memᴰ u (row_types row)) e named)))
     (getD_cases table t TypeData.Error)
 
 -- a row of the first table stands at the number of its kind, and has no type inside
@@ -66,7 +66,7 @@ unfolding first_table table_items row_items
 first_table_ok =
     record {
       start = extends_refl first_table;
-      lower = λ k t row e named. absurd (Memᴰ.not_nil (subst (λ ts. Memᴰ t ts) (first_row k row e).1 named));
+      lower = λ k t row e named. absurd (Memᴰ.not-nil (subst (λ ts. Memᴰ t ts) (first_row k row e).1 named));
       one_number = λ j k row e e'. sym (first_row j row e).0 ∙ (first_row k row e').0;
       few_types = lit≤ tt;
       few_items = lit≤ tt;

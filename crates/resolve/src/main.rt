@@ -1,4 +1,6 @@
 // Reads an index file from standard input and prints the answer lines of its questions, or the line of its refusal.
+#![tactic(auto)]
+
 ghost use Rattle.std.specs.Prelude.{◌≡◌, ◌≤◌, length};
 ghost use Rattle.resolution.specs.Resolve.{refusal_line};
 ghost use Rattle.answers.specs.Steps.{Long};
@@ -8,7 +10,7 @@ use answers::LinesAnswer;
 use demands::Place;
 
 // What stands at the start of the answer buffer is printed: the question and its line to go on with and how many bytes, or the last bytes.
-#[derive(Drop)]
+#[derive(Clone, Copy)]
 pub enum Part {
     More(u32, u32, usize),
     Last(usize),

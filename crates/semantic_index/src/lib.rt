@@ -1,4 +1,6 @@
 // The name lookups of semantic_index.rs, and the expression at a byte, over the record words. A module is given by its number, a name as a part of the file.
+#![tactic(auto)]
+
 pub mod builtins;
 pub mod names;
 
@@ -22,14 +24,14 @@ use records::{
 };
 
 // The number of a module, or none.
-#[derive(Drop)]
+#[derive(Clone, Copy)]
 pub enum ModuleLink {
     Absent,
     To(u32),
 }
 
 // The best so far in a run through the expressions of a module: its number and the length of its span.
-#[derive(Drop)]
+#[derive(Clone, Copy)]
 enum Best {
     Absent,
     Found(u32, u32),

@@ -5,6 +5,8 @@
 // `ast_type`, `def_type`, `struct_data`, `fn_signature` and `expr_type`. A helper for one kind of node has that node's keyword in the index file
 // (`lit`, `un`, `bin`, `call`, `member`, `index`, `tuple`, `tidx`, `arr`, `rep`, `new`), one for a type expression likewise (`tup`, since `tuple` is
 // the node's, and `array`).
+#![tactic(auto)]
+
 ghost use Rattle.std.specs.Prelude.{◌≡◌, ◌+◌, ◌≤◌, ◌<◌, length};
 ghost use Rattle.std.proofs.Math.Option.{some};
 ghost use Rattle.records.specs.Layout.{index_of, module_row};
@@ -33,7 +35,7 @@ use views::{Asked, FoundFieldType, FoundImport};
 const MISSING_CHILD: u32 = 6;
 
 // The number of a type or none, or the number of a refusal.
-#[derive(Drop)]
+#[derive(Clone, Copy)]
 pub enum Linked {
     Known(u32),
     Absent,
@@ -41,7 +43,7 @@ pub enum Linked {
 }
 
 // What a line says: a type by its number, the word `none`, or the number of a refusal.
-#[derive(Drop)]
+#[derive(Clone, Copy)]
 pub enum Said {
     Type(u32),
     None,
@@ -49,14 +51,14 @@ pub enum Said {
 }
 
 // How many types were collected, or the number of a refusal.
-#[derive(Drop)]
+#[derive(Clone, Copy)]
 pub enum Collected {
     All(usize),
     Refused(u32),
 }
 
 // Whether all elements fit, or the number of a refusal.
-#[derive(Drop)]
+#[derive(Clone, Copy)]
 pub enum Compared {
     Same,
     Different,
@@ -64,14 +66,14 @@ pub enum Compared {
 }
 
 // The list of a struct's fields.
-#[derive(Drop)]
+#[derive(Clone, Copy)]
 pub enum FoundFields {
     Absent,
     Found(Items),
 }
 
 // The return type and the parameters of a function.
-#[derive(Drop)]
+#[derive(Clone, Copy)]
 pub enum FoundFunction {
     Absent,
     Found(u32, Items),

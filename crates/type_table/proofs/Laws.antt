@@ -25,7 +25,7 @@ use Rattle.type_table.proofs.Rows.{data_below, data_past}
 -- ------------------------------------------------------------------ lists of numbers that are below
 
 pub member_below : (n : ℕ) (l : List ℕ) → AllBelow n l → (u : ℕ) → Memᴰ u l → u < n
-member_below n [] all u named = absurd (Memᴰ.not_nil named)
+member_below n [] all u named = absurd (Memᴰ.not-nil named)
 member_below n (x ∷ l) all u (Memᴰ.head e) = subst (λ y. y < n) (sym e) (all zero (suc-le-suc zero-le))
 member_below n (x ∷ l) all u (Memᴰ.tail named) = member_below n l (λ i past. all (suc i) (suc-le-suc past)) u named
 

@@ -1,4 +1,6 @@
 // The table of types in a lent buffer of words: equal types have one number.
+#![tactic(auto)]
+
 ghost use Rattle.std.specs.Prelude.{◌≡◌, ℕ, ◌+◌, ◌≤◌, ◌<◌, List, map, length};
 ghost use Rattle.std.proofs.Math.ListN.{get_elem?};
 ghost use Rattle.model.specs.Common.{eq_numbers};
@@ -47,7 +49,7 @@ pub const KIND_STRUCT: u32 = 8;
 pub const KIND_FUNCTION: u32 = 9;
 
 // The fixed words of a row. What its kind has no use for is zero.
-#[derive(Drop)]
+#[derive(Clone, Copy)]
 pub struct Head {
     pub kind: u32,
     // The module of a struct or a function.
@@ -73,14 +75,14 @@ pub const ERROR: u32 = 4;
 pub const UNIT: u32 = 5;
 
 // A list of types: a range of the items.
-#[derive(Drop)]
+#[derive(Clone, Copy)]
 pub struct TypeList {
     pub first: u32,
     pub count: u32,
 }
 
 // A type by its row.
-#[derive(Drop)]
+#[derive(Clone, Copy)]
 pub enum TypeData {
     Felt,
     Bool,
@@ -97,32 +99,32 @@ pub enum TypeData {
 }
 
 // What may be absent: a type, a row's list, an array's element and size, a function's parameters and return type.
-#[derive(Drop)]
+#[derive(Clone, Copy)]
 pub enum FoundType {
     Absent,
     Found(u32),
 }
 
-#[derive(Drop)]
+#[derive(Clone, Copy)]
 pub enum FoundList {
     Absent,
     Found(TypeList),
 }
 
-#[derive(Drop)]
+#[derive(Clone, Copy)]
 pub enum FoundArray {
     Absent,
     Found(u32, u64),
 }
 
-#[derive(Drop)]
+#[derive(Clone, Copy)]
 pub enum FoundSignature {
     Absent,
     Found(TypeList, u32),
 }
 
 // The number of a type, or of a refusal.
-#[derive(Drop)]
+#[derive(Clone, Copy)]
 pub enum Resolved {
     Answered(u32),
     Refused(u32),

@@ -1,4 +1,6 @@
 // The text of a type: measured first, then written straight into a lent buffer.
+#![tactic(auto)]
+
 ghost use Rattle.std.specs.Prelude.{◌≡◌, ◌+◌, ◌≤◌, min, length};
 ghost use Rattle.resolution.specs.Answer.{decimal, comma_texts, type_text};
 ghost use Rattle.resolution.specs.TableOk.{TableOk};
@@ -15,7 +17,7 @@ const MAX_TEXT: usize = 4096;
 const OVER: usize = 4097;
 
 // The text of a type written, with its length; or over 4,096 bytes; or longer than the buffer.
-#[derive(Drop)]
+#[derive(Clone, Copy)]
 pub enum TypeText {
     Written(usize),
     TooLong,

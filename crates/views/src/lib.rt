@@ -1,5 +1,7 @@
 // What a question asks, and what the resolution functions of type_resolution.rs read from the record words without asking. Any words hold some index, so
 // every function is total. A module is given by its number, a name as a part of the file.
+#![tactic(auto)]
+
 ghost use Rattle.std.specs.Prelude.{◌≡◌, ℕ, List};
 ghost use Rattle.std.proofs.Math.ListN.{get_elem?};
 ghost use Rattle.model.specs.Records.{Index};
@@ -23,7 +25,7 @@ use records::{
 use semantic_index::ModuleLink;
 
 // What an answer line is about: module, expression, context; module, definition; module, T, scope; module, position.
-#[derive(Drop)]
+#[derive(Clone, Copy)]
 pub enum Asked {
     Expr(u32, ExpressionId, TypeLink),
     Def(u32, DefinitionIndex),
@@ -32,21 +34,21 @@ pub enum Asked {
 }
 
 // What a question asks at a line's number.
-#[derive(Drop)]
+#[derive(Clone, Copy)]
 pub enum FoundAsked {
     Past,
     Found(Asked),
 }
 
 // The T of a struct literal's field and the scope of the literal, or none.
-#[derive(Drop)]
+#[derive(Clone, Copy)]
 pub enum FoundFieldType {
     Absent,
     Found(u32, FileScopeId),
 }
 
 // A definition of another module: the module's number, and the definition's there; or none.
-#[derive(Drop)]
+#[derive(Clone, Copy)]
 pub enum FoundImport {
     Absent,
     Found(u32, DefinitionIndex),

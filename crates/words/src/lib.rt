@@ -2,6 +2,8 @@
 //
 // A table is a fixed byte string with nine bytes for each word: the word's length, the word, and zeros. Beside it stands a map: for each hash
 // the place of the one word of the table that has it (any place, where none has). So a field is compared with one word only.
+#![tactic(auto)]
+
 ghost use Rattle.std.specs.Prelude.{◌≡◌, ◌+◌, ◌≤◌, ◌<◌, length, take, drop};
 ghost use Rattle.model.specs.Common.{eq_numbers};
 ghost use Rattle.format.specs.Fields.{field_of};
@@ -19,14 +21,14 @@ ghost use Rattle.words.specs.Packed.{found_is, version_is, hash_of, candidate_pl
 use format::{DefinitionWord, LineWord, NodeWord, OriginWord, QuestionWord, ScopeWord, TypeWord};
 
 // The place of a word in its table.
-#[derive(Drop)]
+#[derive(Clone, Copy)]
 pub enum Found {
     At(usize),
     Nothing,
 }
 
 // The version of an index file.
-#[derive(Drop)]
+#[derive(Clone, Copy)]
 pub enum Version {
     Is(u32),
     Missing,

@@ -1,0 +1,10 @@
+-- `demands::demand_at` meets its contract: past the end each number of the default is 0. Assumes nothing.
+use mathlib.Core.Path.{sym, ap, ◌∙◌}
+use mathlib.Core.List.{[]}
+use lib.ListN.{get_or-eq_default}
+use Rattle.demands.specs.Meaning.{place_at, of_place}
+use Rattle.demands.proofs.demand_at.Goals as goal
+
+pub returns-else-i-demands : goal.returns-else-i-demands
+unfolding place_at
+returns-else-i-demands c = c.no_demand.ensures ∙ sym (ap of_place (get_or-eq_default c.args.demands.now [] c.if-i-demands.false))

@@ -1,0 +1,8 @@
+-- `records::definition_name` meets its contract. Assumes nothing.
+use mathlib.Core.Path.{ap, ◌∙◌}
+use Rattle.records.specs.Layout.{name_by, definition_row}
+use Rattle.records.proofs.definition_name.Goals as goal
+
+pub returns : goal.returns
+unfolding definition_row
+returns c = λ file. c.name_of.ensures file ∙ ap (name_by file) c.word_at.ensures

@@ -1,0 +1,7 @@
+-- `records::expression_start` meets its contract. Assumes nothing.
+use Rattle.records.specs.Layout.{expression_row}
+use Rattle.records.proofs.expression_start.Goals as goal
+
+pub returns : goal.returns
+unfolding expression_row
+returns c = λ file. c.word_at.ensures

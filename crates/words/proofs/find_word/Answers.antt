@@ -1,0 +1,31 @@
+-- `words::find_word` meets its contract: the map gives the one place, and the word there is compared. Assumes nothing.
+use mathlib.Core.Path.{sym, ◌∙◌}
+use mathlib.Core.Bool.{true, false}
+use native.Mathlib.Omega.{arith}
+use Rattle.words.proofs.Tables.{place_out, place_cut, place_same}
+use Rattle.words.proofs.find_word.Goals as goal
+
+pub returns-then-table-at : goal.returns-then-table-at
+returns-then-table-at c =
+    let a = c.args in
+    place_out a.field.now a.table.now a.map.now _ _ c.hash-h.ensures c.wide-k.ensures.0 c.if-table-at.true
+
+pub returns-then-table-from : goal.returns-then-table-from
+returns-then-table-from c =
+    let a = c.args in
+    let w = c.wide-n in
+    place_cut a.field.now a.table.now a.map.now _ _ c.hash-h.ensures c.wide-k.ensures.0 _ w.ensures.0 (omega arith) c.if-table-from.true
+
+pub returns-then-same_word : goal.returns-then-same_word
+returns-then-same_word c =
+    let a = c.args in
+    let w = c.wide-n in
+    place_same a.field.now a.table.now a.map.now _ _ c.hash-h.ensures c.wide-k.ensures.0 _ w.ensures.0 (omega arith) c.if-table-from.false true
+    (sym c.if-same_word.true ∙ c.same_word.ensures)
+
+pub returns : goal.returns
+returns c =
+    let a = c.args in
+    let w = c.wide-n in
+    place_same a.field.now a.table.now a.map.now _ _ c.hash-h.ensures c.wide-k.ensures.0 _ w.ensures.0 (omega arith) c.if-table-from.false false
+    (sym c.if-same_word.false ∙ c.same_word.ensures)
