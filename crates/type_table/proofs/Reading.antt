@@ -7,7 +7,7 @@ use native.Mathlib.Omega.{arith}
 use borrow.Author.Tests.{eq-eqb, ne_eqb}
 use lib.Dec.{eqb}
 use lib.ListN.{length, get_elem?}
-use types.Run.{OneOf}
+use borrow.Enum.Refused.{Among}
 use denote.Enum.Declared.{tag_of}
 use Rattle.model.specs.Common.{if◌then◌else◌, let_some}
 use Rattle.records.specs.Layout.{item_value, numbers_at}
@@ -37,7 +37,7 @@ module _ {w : List ℕ} {t : ℕ} {row : Row} (r : DataRead w t row) where
     within = λ file sound list' h. let same : list ≡ list' = cc in subst (Within w) same (row_within file sound e);
   }
 
-  pub tuple_absent : OneOf (0 ∷ 1 ∷ 2 ∷ 3 ∷ 4 ∷ 6 ∷ 7 ∷ 8 ∷ 9 ∷ []) (tag_of the_type row) → TupleRead w t FoundList.Absent
+  pub tuple_absent : Among (0 ∷ 1 ∷ 2 ∷ 3 ∷ 4 ∷ 6 ∷ 7 ∷ 8 ∷ 9 ∷ []) (tag_of the_type row) → TupleRead w t FoundList.Absent
   tuple_absent h = record {
     same = λ file. other_than_tuple file w row h ∙ ap as_tuple (r.same file);
     within = λ file sound list e. let z : ◌≡◌ {A = ℕ} 0 1 = cc in absurd (omega arith);
@@ -47,14 +47,14 @@ module _ {w : List ℕ} {t : ℕ} {row : Row} (r : DataRead w t row) where
   unfolding as_pointer
   pointer_found e file = ap (λ x. as_pointer (data_is file w x)) (sym e) ∙ ap as_pointer (r.same file)
 
-  pub pointer_absent : OneOf (0 ∷ 1 ∷ 2 ∷ 3 ∷ 4 ∷ 5 ∷ 7 ∷ 8 ∷ 9 ∷ []) (tag_of the_type row) → (file : List ℕ) → none ≡ as_pointer (data_of (table_of file w) t)
+  pub pointer_absent : Among (0 ∷ 1 ∷ 2 ∷ 3 ∷ 4 ∷ 5 ∷ 7 ∷ 8 ∷ 9 ∷ []) (tag_of the_type row) → (file : List ℕ) → none ≡ as_pointer (data_of (table_of file w) t)
   pointer_absent h file = other_than_pointer file w row h ∙ ap as_pointer (r.same file)
 
   pub array_found : {u size : ℕ} → row ≡ Row.FixedArray u size → (file : List ℕ) → Reads file w (array_read t) (some (record { element = u; size = size }))
   unfolding as_array array_read
   array_found e file = record { same = ap (λ x. as_array (data_is file w x)) (sym e) ∙ ap as_array (r.same file) }
 
-  pub array_absent : OneOf (0 ∷ 1 ∷ 2 ∷ 3 ∷ 4 ∷ 5 ∷ 6 ∷ 8 ∷ 9 ∷ []) (tag_of the_type row) → (file : List ℕ) → Reads file w (array_read t) none
+  pub array_absent : Among (0 ∷ 1 ∷ 2 ∷ 3 ∷ 4 ∷ 5 ∷ 6 ∷ 8 ∷ 9 ∷ []) (tag_of the_type row) → (file : List ℕ) → Reads file w (array_read t) none
   unfolding array_read
   array_absent h file = record { same = other_than_array file w row h ∙ ap as_array (r.same file) }
 
@@ -62,7 +62,7 @@ module _ {w : List ℕ} {t : ℕ} {row : Row} (r : DataRead w t row) where
   unfolding as_struct
   struct_found e file = ap (λ x. as_struct (data_is file w x)) (sym e) ∙ ap as_struct (r.same file)
 
-  pub struct_absent : OneOf (0 ∷ 1 ∷ 2 ∷ 3 ∷ 4 ∷ 5 ∷ 6 ∷ 7 ∷ 9 ∷ []) (tag_of the_type row) → (file : List ℕ) → none ≡ as_struct (data_of (table_of file w) t)
+  pub struct_absent : Among (0 ∷ 1 ∷ 2 ∷ 3 ∷ 4 ∷ 5 ∷ 6 ∷ 7 ∷ 9 ∷ []) (tag_of the_type row) → (file : List ℕ) → none ≡ as_struct (data_of (table_of file w) t)
   struct_absent h file = other_than_struct file w row h ∙ ap as_struct (r.same file)
 
   pub signature_found : {m d u : ℕ} {list : TypeList} → row ≡ Row.Function m d list u → SignatureRead w t (FoundSignature.Found list u)
@@ -72,19 +72,19 @@ module _ {w : List ℕ} {t : ℕ} {row : Row} (r : DataRead w t row) where
     within = λ file sound list' u' h. let same : list ≡ list' = cc in subst (Within w) same (row_within file sound e);
   }
 
-  pub signature_absent : OneOf (0 ∷ 1 ∷ 2 ∷ 3 ∷ 4 ∷ 5 ∷ 6 ∷ 7 ∷ 8 ∷ []) (tag_of the_type row) → SignatureRead w t FoundSignature.Absent
+  pub signature_absent : Among (0 ∷ 1 ∷ 2 ∷ 3 ∷ 4 ∷ 5 ∷ 6 ∷ 7 ∷ 8 ∷ []) (tag_of the_type row) → SignatureRead w t FoundSignature.Absent
   signature_absent h = record {
     same = λ file. other_than_function file w row h ∙ ap as_function (r.same file);
     within = λ file sound list u e. let z : ◌≡◌ {A = ℕ} 0 1 = cc in absurd (omega arith);
   }
 
-  pub numeric_found : OneOf (0 ∷ 2 ∷ []) (tag_of the_type row) → (file : List ℕ) → Reads file w (numeric_read t) (some t)
+  pub numeric_found : Among (0 ∷ 2 ∷ []) (tag_of the_type row) → (file : List ℕ) → Reads file w (numeric_read t) (some t)
   unfolding numeric_read numeric
   numeric_found h file = record {
     same = ap (λ b. if b then some t else none) (sym (u32_or_felt file w row h)) ∙ ap (λ x. if is_u32_or_felt x then some t else none) (r.same file);
   }
 
-  pub numeric_absent : OneOf (1 ∷ 3 ∷ 4 ∷ 5 ∷ 6 ∷ 7 ∷ 8 ∷ 9 ∷ []) (tag_of the_type row) → (file : List ℕ) → Reads file w (numeric_read t) none
+  pub numeric_absent : Among (1 ∷ 3 ∷ 4 ∷ 5 ∷ 6 ∷ 7 ∷ 8 ∷ 9 ∷ []) (tag_of the_type row) → (file : List ℕ) → Reads file w (numeric_read t) none
   unfolding numeric_read numeric
   numeric_absent h file = record {
     same = ap (λ b. if b then some t else none) (sym (other_than_u32_or_felt file w row h)) ∙ ap (λ x. if is_u32_or_felt x then some t else none) (r.same file);

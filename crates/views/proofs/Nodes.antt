@@ -4,7 +4,8 @@ use mathlib.Core.Bool.{true, false}
 use Prim.Native.Nat.{ℕ}
 use mathlib.Core.List.{List, [], ◌∷◌}
 use mathlib.Core.Option.{Option, none, some}
-use types.Run.{OneOf, miss}
+use types.Run.{miss}
+use borrow.Enum.Refused.{Among, opened}
 use denote.Enum.Declared.{tag_of}
 use Rattle.model.specs.Records.{Name}
 use Rattle.resolution.specs.Compatible.{is_commutative}
@@ -24,17 +25,17 @@ use Rattle.records.specs.contracts.BinaryOp as binary_op
 use Rattle.records.specs.contracts.Expression as expression
 
 -- type expressions
-pub array_expr : (file words : List ℕ) (t : TypeExpr) → OneOf (6 ∷ []) (tag_of type_expr.the_type t) → true ≡ is_array_expr (type_expr_of file words t)
+pub array_expr : (file words : List ℕ) (t : TypeExpr) → Among (6 ∷ []) (tag_of type_expr.the_type t) → true ≡ is_array_expr (type_expr_of file words t)
 unfolding is_array_expr
-array_expr file words TypeExpr.Felt h = absurd (miss (6 ∷ []) 0 tt h)
-array_expr file words TypeExpr.Bool h = absurd (miss (6 ∷ []) 1 tt h)
-array_expr file words TypeExpr.U32 h = absurd (miss (6 ∷ []) 2 tt h)
-array_expr file words (TypeExpr.Custom n) h = absurd (miss (6 ∷ []) 3 tt h)
-array_expr file words (TypeExpr.Pointer t) h = absurd (miss (6 ∷ []) 4 tt h)
-array_expr file words (TypeExpr.Tuple l) h = absurd (miss (6 ∷ []) 5 tt h)
+array_expr file words TypeExpr.Felt h = absurd (miss (6 ∷ []) 0 tt (opened h))
+array_expr file words TypeExpr.Bool h = absurd (miss (6 ∷ []) 1 tt (opened h))
+array_expr file words TypeExpr.U32 h = absurd (miss (6 ∷ []) 2 tt (opened h))
+array_expr file words (TypeExpr.Custom n) h = absurd (miss (6 ∷ []) 3 tt (opened h))
+array_expr file words (TypeExpr.Pointer t) h = absurd (miss (6 ∷ []) 4 tt (opened h))
+array_expr file words (TypeExpr.Tuple l) h = absurd (miss (6 ∷ []) 5 tt (opened h))
 array_expr file words (TypeExpr.FixedArray t size) h = refl
 
-pub other_than_array : (file words : List ℕ) (t : TypeExpr) → OneOf (0 ∷ 1 ∷ 2 ∷ 3 ∷ 4 ∷ 5 ∷ []) (tag_of type_expr.the_type t) → false ≡ is_array_expr (type_expr_of file words t)
+pub other_than_array : (file words : List ℕ) (t : TypeExpr) → Among (0 ∷ 1 ∷ 2 ∷ 3 ∷ 4 ∷ 5 ∷ []) (tag_of type_expr.the_type t) → false ≡ is_array_expr (type_expr_of file words t)
 unfolding is_array_expr
 other_than_array file words TypeExpr.Felt h = refl
 other_than_array file words TypeExpr.Bool h = refl
@@ -42,37 +43,37 @@ other_than_array file words TypeExpr.U32 h = refl
 other_than_array file words (TypeExpr.Custom n) h = refl
 other_than_array file words (TypeExpr.Pointer t) h = refl
 other_than_array file words (TypeExpr.Tuple l) h = refl
-other_than_array file words (TypeExpr.FixedArray t size) h = absurd (miss (0 ∷ 1 ∷ 2 ∷ 3 ∷ 4 ∷ 5 ∷ []) 6 tt h)
+other_than_array file words (TypeExpr.FixedArray t size) h = absurd (miss (0 ∷ 1 ∷ 2 ∷ 3 ∷ 4 ∷ 5 ∷ []) 6 tt (opened h))
 
 -- operators
-pub commutes : (op : BinaryOp) → OneOf (0 ∷ 2 ∷ 5 ∷ 6 ∷ []) (tag_of binary_op.the_type op) → true ≡ is_commutative (binary_op_of op)
+pub commutes : (op : BinaryOp) → Among (0 ∷ 2 ∷ 5 ∷ 6 ∷ []) (tag_of binary_op.the_type op) → true ≡ is_commutative (binary_op_of op)
 unfolding is_commutative
 commutes BinaryOp.Add h = refl
-commutes BinaryOp.Sub h = absurd (miss (0 ∷ 2 ∷ 5 ∷ 6 ∷ []) 1 tt h)
+commutes BinaryOp.Sub h = absurd (miss (0 ∷ 2 ∷ 5 ∷ 6 ∷ []) 1 tt (opened h))
 commutes BinaryOp.Mul h = refl
-commutes BinaryOp.Div h = absurd (miss (0 ∷ 2 ∷ 5 ∷ 6 ∷ []) 3 tt h)
-commutes BinaryOp.Mod h = absurd (miss (0 ∷ 2 ∷ 5 ∷ 6 ∷ []) 4 tt h)
+commutes BinaryOp.Div h = absurd (miss (0 ∷ 2 ∷ 5 ∷ 6 ∷ []) 3 tt (opened h))
+commutes BinaryOp.Mod h = absurd (miss (0 ∷ 2 ∷ 5 ∷ 6 ∷ []) 4 tt (opened h))
 commutes BinaryOp.Eq h = refl
 commutes BinaryOp.Neq h = refl
-commutes BinaryOp.Less h = absurd (miss (0 ∷ 2 ∷ 5 ∷ 6 ∷ []) 7 tt h)
-commutes BinaryOp.Greater h = absurd (miss (0 ∷ 2 ∷ 5 ∷ 6 ∷ []) 8 tt h)
-commutes BinaryOp.LessEqual h = absurd (miss (0 ∷ 2 ∷ 5 ∷ 6 ∷ []) 9 tt h)
-commutes BinaryOp.GreaterEqual h = absurd (miss (0 ∷ 2 ∷ 5 ∷ 6 ∷ []) 10 tt h)
-commutes BinaryOp.And h = absurd (miss (0 ∷ 2 ∷ 5 ∷ 6 ∷ []) 11 tt h)
-commutes BinaryOp.Or h = absurd (miss (0 ∷ 2 ∷ 5 ∷ 6 ∷ []) 12 tt h)
-commutes BinaryOp.BitwiseAnd h = absurd (miss (0 ∷ 2 ∷ 5 ∷ 6 ∷ []) 13 tt h)
-commutes BinaryOp.BitwiseOr h = absurd (miss (0 ∷ 2 ∷ 5 ∷ 6 ∷ []) 14 tt h)
-commutes BinaryOp.BitwiseXor h = absurd (miss (0 ∷ 2 ∷ 5 ∷ 6 ∷ []) 15 tt h)
+commutes BinaryOp.Less h = absurd (miss (0 ∷ 2 ∷ 5 ∷ 6 ∷ []) 7 tt (opened h))
+commutes BinaryOp.Greater h = absurd (miss (0 ∷ 2 ∷ 5 ∷ 6 ∷ []) 8 tt (opened h))
+commutes BinaryOp.LessEqual h = absurd (miss (0 ∷ 2 ∷ 5 ∷ 6 ∷ []) 9 tt (opened h))
+commutes BinaryOp.GreaterEqual h = absurd (miss (0 ∷ 2 ∷ 5 ∷ 6 ∷ []) 10 tt (opened h))
+commutes BinaryOp.And h = absurd (miss (0 ∷ 2 ∷ 5 ∷ 6 ∷ []) 11 tt (opened h))
+commutes BinaryOp.Or h = absurd (miss (0 ∷ 2 ∷ 5 ∷ 6 ∷ []) 12 tt (opened h))
+commutes BinaryOp.BitwiseAnd h = absurd (miss (0 ∷ 2 ∷ 5 ∷ 6 ∷ []) 13 tt (opened h))
+commutes BinaryOp.BitwiseOr h = absurd (miss (0 ∷ 2 ∷ 5 ∷ 6 ∷ []) 14 tt (opened h))
+commutes BinaryOp.BitwiseXor h = absurd (miss (0 ∷ 2 ∷ 5 ∷ 6 ∷ []) 15 tt (opened h))
 
-pub keeps_order : (op : BinaryOp) → OneOf (1 ∷ 3 ∷ 4 ∷ 7 ∷ 8 ∷ 9 ∷ 10 ∷ 11 ∷ 12 ∷ 13 ∷ 14 ∷ 15 ∷ []) (tag_of binary_op.the_type op) → false ≡ is_commutative (binary_op_of op)
+pub keeps_order : (op : BinaryOp) → Among (1 ∷ 3 ∷ 4 ∷ 7 ∷ 8 ∷ 9 ∷ 10 ∷ 11 ∷ 12 ∷ 13 ∷ 14 ∷ 15 ∷ []) (tag_of binary_op.the_type op) → false ≡ is_commutative (binary_op_of op)
 unfolding is_commutative
-keeps_order BinaryOp.Add h = absurd (miss (1 ∷ 3 ∷ 4 ∷ 7 ∷ 8 ∷ 9 ∷ 10 ∷ 11 ∷ 12 ∷ 13 ∷ 14 ∷ 15 ∷ []) 0 tt h)
+keeps_order BinaryOp.Add h = absurd (miss (1 ∷ 3 ∷ 4 ∷ 7 ∷ 8 ∷ 9 ∷ 10 ∷ 11 ∷ 12 ∷ 13 ∷ 14 ∷ 15 ∷ []) 0 tt (opened h))
 keeps_order BinaryOp.Sub h = refl
-keeps_order BinaryOp.Mul h = absurd (miss (1 ∷ 3 ∷ 4 ∷ 7 ∷ 8 ∷ 9 ∷ 10 ∷ 11 ∷ 12 ∷ 13 ∷ 14 ∷ 15 ∷ []) 2 tt h)
+keeps_order BinaryOp.Mul h = absurd (miss (1 ∷ 3 ∷ 4 ∷ 7 ∷ 8 ∷ 9 ∷ 10 ∷ 11 ∷ 12 ∷ 13 ∷ 14 ∷ 15 ∷ []) 2 tt (opened h))
 keeps_order BinaryOp.Div h = refl
 keeps_order BinaryOp.Mod h = refl
-keeps_order BinaryOp.Eq h = absurd (miss (1 ∷ 3 ∷ 4 ∷ 7 ∷ 8 ∷ 9 ∷ 10 ∷ 11 ∷ 12 ∷ 13 ∷ 14 ∷ 15 ∷ []) 5 tt h)
-keeps_order BinaryOp.Neq h = absurd (miss (1 ∷ 3 ∷ 4 ∷ 7 ∷ 8 ∷ 9 ∷ 10 ∷ 11 ∷ 12 ∷ 13 ∷ 14 ∷ 15 ∷ []) 6 tt h)
+keeps_order BinaryOp.Eq h = absurd (miss (1 ∷ 3 ∷ 4 ∷ 7 ∷ 8 ∷ 9 ∷ 10 ∷ 11 ∷ 12 ∷ 13 ∷ 14 ∷ 15 ∷ []) 5 tt (opened h))
+keeps_order BinaryOp.Neq h = absurd (miss (1 ∷ 3 ∷ 4 ∷ 7 ∷ 8 ∷ 9 ∷ 10 ∷ 11 ∷ 12 ∷ 13 ∷ 14 ∷ 15 ∷ []) 6 tt (opened h))
 keeps_order BinaryOp.Less h = refl
 keeps_order BinaryOp.Greater h = refl
 keeps_order BinaryOp.LessEqual h = refl
@@ -84,9 +85,9 @@ keeps_order BinaryOp.BitwiseOr h = refl
 keeps_order BinaryOp.BitwiseXor h = refl
 
 -- nodes
-pub other_than_literal : (file words : List ℕ) (node : Expression) → OneOf (1 ∷ 2 ∷ 3 ∷ 4 ∷ 5 ∷ 6 ∷ 7 ∷ 8 ∷ 9 ∷ 10 ∷ 11 ∷ 12 ∷ 13 ∷ 14 ∷ 15 ∷ []) (tag_of expression.the_type node) → false ≡ is_unsuffixed_literal (expression_of file words node)
+pub other_than_literal : (file words : List ℕ) (node : Expression) → Among (1 ∷ 2 ∷ 3 ∷ 4 ∷ 5 ∷ 6 ∷ 7 ∷ 8 ∷ 9 ∷ 10 ∷ 11 ∷ 12 ∷ 13 ∷ 14 ∷ 15 ∷ []) (tag_of expression.the_type node) → false ≡ is_unsuffixed_literal (expression_of file words node)
 unfolding is_unsuffixed_literal
-other_than_literal file words (Expression.Literal s) h = absurd (miss (1 ∷ 2 ∷ 3 ∷ 4 ∷ 5 ∷ 6 ∷ 7 ∷ 8 ∷ 9 ∷ 10 ∷ 11 ∷ 12 ∷ 13 ∷ 14 ∷ 15 ∷ []) 0 tt h)
+other_than_literal file words (Expression.Literal s) h = absurd (miss (1 ∷ 2 ∷ 3 ∷ 4 ∷ 5 ∷ 6 ∷ 7 ∷ 8 ∷ 9 ∷ 10 ∷ 11 ∷ 12 ∷ 13 ∷ 14 ∷ 15 ∷ []) 0 tt (opened h))
 other_than_literal file words Expression.BooleanLiteral h = refl
 other_than_literal file words (Expression.Identifier n) h = refl
 other_than_literal file words (Expression.Unary op e) h = refl
@@ -103,11 +104,11 @@ other_than_literal file words (Expression.Cast t) h = refl
 other_than_literal file words (Expression.New t e) h = refl
 other_than_literal file words (Expression.Parenthesized e) h = refl
 
-pub other_than_identifier : (file words : List ℕ) (node : Expression) → OneOf (0 ∷ 1 ∷ 3 ∷ 4 ∷ 5 ∷ 6 ∷ 7 ∷ 8 ∷ 9 ∷ 10 ∷ 11 ∷ 12 ∷ 13 ∷ 14 ∷ 15 ∷ []) (tag_of expression.the_type node) → as_identifier (expression_of file words node) ≡ none
+pub other_than_identifier : (file words : List ℕ) (node : Expression) → Among (0 ∷ 1 ∷ 3 ∷ 4 ∷ 5 ∷ 6 ∷ 7 ∷ 8 ∷ 9 ∷ 10 ∷ 11 ∷ 12 ∷ 13 ∷ 14 ∷ 15 ∷ []) (tag_of expression.the_type node) → as_identifier (expression_of file words node) ≡ none
 unfolding as_identifier
 other_than_identifier file words (Expression.Literal s) h = refl
 other_than_identifier file words Expression.BooleanLiteral h = refl
-other_than_identifier file words (Expression.Identifier n) h = absurd (miss (0 ∷ 1 ∷ 3 ∷ 4 ∷ 5 ∷ 6 ∷ 7 ∷ 8 ∷ 9 ∷ 10 ∷ 11 ∷ 12 ∷ 13 ∷ 14 ∷ 15 ∷ []) 2 tt h)
+other_than_identifier file words (Expression.Identifier n) h = absurd (miss (0 ∷ 1 ∷ 3 ∷ 4 ∷ 5 ∷ 6 ∷ 7 ∷ 8 ∷ 9 ∷ 10 ∷ 11 ∷ 12 ∷ 13 ∷ 14 ∷ 15 ∷ []) 2 tt (opened h))
 other_than_identifier file words (Expression.Unary op e) h = refl
 other_than_identifier file words (Expression.Binary op a b) h = refl
 other_than_identifier file words (Expression.FunctionCall e l) h = refl
@@ -122,7 +123,7 @@ other_than_identifier file words (Expression.Cast t) h = refl
 other_than_identifier file words (Expression.New t e) h = refl
 other_than_identifier file words (Expression.Parenthesized e) h = refl
 
-pub other_than_struct_literal : (file words : List ℕ) (node : Expression) → OneOf (0 ∷ 1 ∷ 2 ∷ 3 ∷ 4 ∷ 5 ∷ 6 ∷ 7 ∷ 9 ∷ 10 ∷ 11 ∷ 12 ∷ 13 ∷ 14 ∷ 15 ∷ []) (tag_of expression.the_type node) → as_struct_literal (expression_of file words node) ≡ none
+pub other_than_struct_literal : (file words : List ℕ) (node : Expression) → Among (0 ∷ 1 ∷ 2 ∷ 3 ∷ 4 ∷ 5 ∷ 6 ∷ 7 ∷ 9 ∷ 10 ∷ 11 ∷ 12 ∷ 13 ∷ 14 ∷ 15 ∷ []) (tag_of expression.the_type node) → as_struct_literal (expression_of file words node) ≡ none
 unfolding as_struct_literal
 other_than_struct_literal file words (Expression.Literal s) h = refl
 other_than_struct_literal file words Expression.BooleanLiteral h = refl
@@ -132,7 +133,7 @@ other_than_struct_literal file words (Expression.Binary op a b) h = refl
 other_than_struct_literal file words (Expression.FunctionCall e l) h = refl
 other_than_struct_literal file words (Expression.MemberAccess e n) h = refl
 other_than_struct_literal file words (Expression.IndexAccess a b) h = refl
-other_than_struct_literal file words (Expression.StructLiteral n a b) h = absurd (miss (0 ∷ 1 ∷ 2 ∷ 3 ∷ 4 ∷ 5 ∷ 6 ∷ 7 ∷ 9 ∷ 10 ∷ 11 ∷ 12 ∷ 13 ∷ 14 ∷ 15 ∷ []) 8 tt h)
+other_than_struct_literal file words (Expression.StructLiteral n a b) h = absurd (miss (0 ∷ 1 ∷ 2 ∷ 3 ∷ 4 ∷ 5 ∷ 6 ∷ 7 ∷ 9 ∷ 10 ∷ 11 ∷ 12 ∷ 13 ∷ 14 ∷ 15 ∷ []) 8 tt (opened h))
 other_than_struct_literal file words (Expression.Tuple l) h = refl
 other_than_struct_literal file words (Expression.TupleIndex e i) h = refl
 other_than_struct_literal file words (Expression.ArrayLiteral l) h = refl
@@ -166,10 +167,10 @@ pub a_struct : (file words : List ℕ) (name : Name) (kind : DefinitionKind) (fi
 unfolding struct_field
 a_struct file words name kind fields o h e = rw h e
 
-pub other_than_struct : (file words : List ℕ) (name : Name) (kind : DefinitionKind) → OneOf (0 ∷ 2 ∷ 3 ∷ 4 ∷ 5 ∷ 6 ∷ []) (tag_of definition_kind.the_type kind) → none ≡ struct_field (definition_kind_of file words kind) name
+pub other_than_struct : (file words : List ℕ) (name : Name) (kind : DefinitionKind) → Among (0 ∷ 2 ∷ 3 ∷ 4 ∷ 5 ∷ 6 ∷ []) (tag_of definition_kind.the_type kind) → none ≡ struct_field (definition_kind_of file words kind) name
 unfolding struct_field
 other_than_struct file words name (DefinitionKind.Function t l) h = refl
-other_than_struct file words name (DefinitionKind.Struct l) h = absurd (miss (0 ∷ 2 ∷ 3 ∷ 4 ∷ 5 ∷ 6 ∷ []) 1 tt h)
+other_than_struct file words name (DefinitionKind.Struct l) h = absurd (miss (0 ∷ 2 ∷ 3 ∷ 4 ∷ 5 ∷ 6 ∷ []) 1 tt (opened h))
 other_than_struct file words name (DefinitionKind.Const t e) h = refl
 other_than_struct file words name (DefinitionKind.Let t e v l) h = refl
 other_than_struct file words name (DefinitionKind.Parameter t) h = refl
