@@ -22,7 +22,7 @@ returns-then-not-is_end c =
     let a = c.args in
     let s = a.file.now in
     let q = c.visible_end-e.ensures in
-    sym (name_hidden s a.from (ap (λ n. is_empty (field_of (drop n s))) (sym q) ∙ sym c.is_end.ensures ∙ not_yes _ c.if-not-is_end.true))
+    sym (name_hidden s a.from (ap (λ n. is_empty (field_of (drop n s))) (sym q) ∙ sym c.is_end.ensures ∙ c.if-not-is_end.true))
 
 pub returns-then-n-lt1 : goal.returns-then-n-lt1
 returns-then-n-lt1 c =
@@ -30,7 +30,7 @@ returns-then-n-lt1 c =
     let s = a.file.now in
     let p = a.from in
     let q = c.visible_end-e.ensures in
-    let ends = is_empty_of s (p + length (visible_run (drop p s))) (ap (λ n. is_empty (field_of (drop n s))) (sym q) ∙ sym c.is_end.ensures ∙ not_no _ c.if-not-is_end.false) in
+    let ends = is_empty_of s (p + length (visible_run (drop p s))) (ap (λ n. is_empty (field_of (drop n s))) (sym q) ∙ sym c.is_end.ensures ∙ c.if-not-is_end.false) in
     sym (name_empty s p ends (omega (arith, q)))
 
 pub returns-then-n-gt64 : goal.returns-then-n-gt64
@@ -39,7 +39,7 @@ returns-then-n-gt64 c =
     let s = a.file.now in
     let p = a.from in
     let q = c.visible_end-e.ensures in
-    let ends = is_empty_of s (p + length (visible_run (drop p s))) (ap (λ n. is_empty (field_of (drop n s))) (sym q) ∙ sym c.is_end.ensures ∙ not_no _ c.if-not-is_end.false) in
+    let ends = is_empty_of s (p + length (visible_run (drop p s))) (ap (λ n. is_empty (field_of (drop n s))) (sym q) ∙ sym c.is_end.ensures ∙ c.if-not-is_end.false) in
     sym (name_long s p ends (omega (arith, q)))
 
 pub returns : goal.returns
@@ -48,7 +48,7 @@ returns c =
     let s = a.file.now in
     let p = a.from in
     let q = c.visible_end-e.ensures in
-    let ends = is_empty_of s (p + length (visible_run (drop p s))) (ap (λ n. is_empty (field_of (drop n s))) (sym q) ∙ sym c.is_end.ensures ∙ not_no _ c.if-not-is_end.false) in
+    let ends = is_empty_of s (p + length (visible_run (drop p s))) (ap (λ n. is_empty (field_of (drop n s))) (sym q) ∙ sym c.is_end.ensures ∙ c.if-not-is_end.false) in
     let m : c.visible_end-e.result - p ≡ length (visible_run (drop p s)) = omega (arith, q) in
     (λ i. some (record { value = text (bytes_at s p (m i)); rest = drop (q i) s }))
     ∙ sym (name_is s p ends (sym c.is_dash_at.ensures ∙ c.if-is_dash_at.false) (omega (arith, q)) (omega (arith, q)))

@@ -8,7 +8,7 @@ use Rattle.links.proofs.Below.{every_from}
 use Rattle.links.proofs.links_below.Given as goal
 
 abbrev pub invariant-loop-i : goal.invariant-loop-i
-invariant-loop-i l = all_below l.n (links (links_at l.words l.begin l.count)) ≡ every_from (λ o. all_below l.n (link o)) (λ l.i. link_by (item_value l.words l.i)) l.begin l.count l.i
+invariant-loop-i l = all_below l.n (links (links_at l.words l.begin l.count)) ≡ every_from (λ o. all_below l.n (link o)) (λ i. link_by (item_value l.words i)) l.begin l.count l.i
 
 abbrev pub decreases-loop-i : goal.decreases-loop-i
 decreases-loop-i l = l.count - l.i

@@ -1,0 +1,7 @@
+-- `type_table::intern_array` meets its contract. Assumes nothing.
+use Rattle.type_table.specs.Layout.{data_from, data_by}
+use Rattle.type_table.proofs.intern_array.Goals as goal
+
+pub returns : goal.returns
+unfolding data_from data_by
+returns c = c.intern.ensures

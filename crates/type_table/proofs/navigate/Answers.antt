@@ -1,0 +1,36 @@
+-- `type_table::navigate` meets its contract. Assumes nothing.
+use Prim.Native.Nat.{◌-◌}
+use mathlib.Core.Path.{sym, ap, ◌∙◌}
+use Rattle.type_table.specs.Layout.{table_of}
+use Rattle.type_table.specs.Meaning.{found_types_of, found_type_of}
+use Rattle.type_table.specs.Reads.{navigate_read}
+use Rattle.type_table.proofs.Reading.{path_end, path_no_tuple, path_no_element, path_on}
+use native.Mathlib.Omega.{arith}
+use Rattle.type_table.proofs.navigate.Goals as goal
+
+pub returns-in_default : goal.returns-in_default
+unfolding navigate_read
+returns-in_default c =
+    let start = c.args in
+    let turn = c.loop-i in
+    λ file. record { same = path_no_tuple start.words.now (table_of file start.types.now) turn.at start.path.first start.path.count turn.i (omega arith) (c.tuple_of.ensures.same file) (ap (found_types_of start.types.now) c.in_default.is) ∙ sym (turn.invariant.1 file) }
+
+pub returns-in_default-item : goal.returns-in_default-item
+unfolding navigate_read
+returns-in_default-item c =
+    let start = c.args in
+    let turn = c.loop-i in
+    λ file. record { same = path_no_element start.words.now (table_of file start.types.now) turn.at start.path.first start.path.count turn.i (omega arith) (c.tuple_of.ensures.same file) (ap (found_types_of start.types.now) c.in-Found.is) c.item.ensures c.item_value-index.ensures (ap found_type_of c.in_default-item.is) ∙ sym (turn.invariant.1 file) }
+
+pub loop-i-preserved : goal.loop-i-preserved
+loop-i-preserved c =
+    let start = c.args in
+    let turn = c.loop-i in
+    (omega arith, λ file. turn.invariant.1 file ∙ path_on start.words.now (table_of file start.types.now) turn.at start.path.first start.path.count turn.i (omega arith) (c.tuple_of.ensures.same file) (ap (found_types_of start.types.now) c.in-Found.is) c.item.ensures c.item_value-index.ensures (ap found_type_of c.in-Found-item.is))
+
+pub returns : goal.returns
+unfolding navigate_read
+returns c =
+    let start = c.args in
+    let turn = c.loop-i in
+    λ file. record { same = sym (turn.invariant.1 file ∙ path_end start.words.now (table_of file start.types.now) turn.at start.path.first start.path.count turn.i (omega arith)) }

@@ -1,0 +1,20 @@
+-- `type_table::struct_or_error` meets its contract. Assumes nothing.
+use mathlib.Core.Path.{ap}
+use Rattle.type_table.specs.Meaning.{found_fields_of}
+use Rattle.type_table.specs.Reads.{struct_or_error}
+use Rattle.type_table.proofs.Reading.{some_read, none_read}
+use Rattle.type_table.proofs.struct_or_error.Goals as goal
+
+pub returns-in-Found : goal.returns-in-Found
+unfolding struct_or_error
+returns-in-Found c =
+    let args = c.args in
+    let struct-of = c.struct_of in
+    λ file. record { same = some_read 4 (λ fields. args.t) (struct-of.ensures file) (ap (found_fields_of file args.types.now) c.in-Found.is) }
+
+pub returns-in-Absent : goal.returns-in-Absent
+unfolding struct_or_error
+returns-in-Absent c =
+    let args = c.args in
+    let struct-of = c.struct_of in
+    λ file. record { same = none_read 4 (λ fields. args.t) (struct-of.ensures file) (ap (found_fields_of file args.types.now) c.in-Absent.is) }

@@ -1,0 +1,34 @@
+-- `type_table::tuple_element` meets its contract. Assumes nothing.
+use mathlib.Core.Path.{ap, ◌∙◌}
+use lib.ListN.{get_elem?}
+use Rattle.model.specs.Common.{let_some}
+use Rattle.type_table.specs.Meaning.{found_types_of, found_type_of}
+use Rattle.type_table.specs.Reads.{tuple_element_read}
+use Rattle.type_table.proofs.Reading.{some_read, none_read}
+use Rattle.type_table.proofs.tuple_element.Goals as goal
+
+pub returns-in_default : goal.returns-in_default
+unfolding tuple_element_read
+returns-in_default c =
+    let start = c.args in
+    λ file. record { same = none_read 4 (λ elements. let_some (get_elem? elements start.i) 4 (λ u. u)) (c.tuple_of.ensures.same file) (ap (found_types_of start.types.now) c.in_default.is) }
+
+pub returns-in_default-item : goal.returns-in_default-item
+unfolding tuple_element_read
+returns-in_default-item c =
+    let start = c.args in
+    λ file. record {
+      same =
+          none_read 4 (λ u. u) c.item.ensures (ap found_type_of c.in_default-item.is)
+          ∙ some_read 4 (λ elements. let_some (get_elem? elements start.i) 4 (λ u. u)) (c.tuple_of.ensures.same file) (ap (found_types_of start.types.now) c.in-Found.is);
+    }
+
+pub returns : goal.returns
+unfolding tuple_element_read
+returns c =
+    let start = c.args in
+    λ file. record {
+      same =
+          some_read 4 (λ u. u) c.item.ensures (ap found_type_of c.in-Found-item.is)
+          ∙ some_read 4 (λ elements. let_some (get_elem? elements start.i) 4 (λ u. u)) (c.tuple_of.ensures.same file) (ap (found_types_of start.types.now) c.in-Found.is);
+    }
