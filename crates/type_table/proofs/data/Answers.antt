@@ -48,9 +48,7 @@ returns-in-3 c = record { same = λ file. by_kind c file 3 c.in-3.is; within = �
 pub returns-in-5 : goal.returns-in-5
 unfolding data_by
 returns-in-5 c =
-    let args = c.args in
-    let word-at2 = c.word_at-first in
-    record { same = λ file. ap₂ (λ x y. TypeData.Tuple (items_from args.types.now x y)) word-at2.ensures c.word_at-count.ensures ∙ by_kind c file 5 c.in-5.is; within = λ file sound. within c file sound }
+    record { same = λ file. ap₂ (λ x y. TypeData.Tuple (items_from c.args.types.now x y)) c.word_at-first.ensures c.word_at-count.ensures ∙ by_kind c file 5 c.in-5.is; within = λ file sound. within c file sound }
 
 pub returns-in-6 : goal.returns-in-6
 unfolding data_by
@@ -75,10 +73,7 @@ returns-in-8 c =
 pub returns-in-9 : goal.returns-in-9
 unfolding data_by
 returns-in-9 c =
-    let args = c.args in
-    let head_of = c.head_of-head in
-    let word-at2 = c.word_at-first in
-    record { same = λ file. ap₂ (λ x y. TypeData.Function head_of.result.home head_of.result.definition (items_from args.types.now x y) head_of.result.element) word-at2.ensures c.word_at-count.ensures ∙ by_kind c file 9 c.in-9.is; within = λ file sound. within c file sound }
+    record { same = λ file. ap₂ (λ x y. TypeData.Function c.head_of-head.result.home c.head_of-head.result.definition (items_from c.args.types.now x y) c.head_of-head.result.element) c.word_at-first.ensures c.word_at-count.ensures ∙ by_kind c file 9 c.in-9.is; within = λ file sound. within c file sound }
 
 pub returns-in_default : goal.returns-in_default
 returns-in_default c = record { same = λ file. sym (no_kind file _ _ _ _ c.in_default.in_default-own.rest.0.0.0.0.0.0.0.0.1 c.in_default.in_default-own.rest.0.0.0.0.0.0.0.1 c.in_default.in_default-own.rest.0.0.0.0.0.0.1 c.in_default.in_default-own.rest.0.0.0.0.0.1 c.in_default.in_default-own.rest.0.0.0.0.1 c.in_default.in_default-own.rest.0.0.0.1 c.in_default.in_default-own.rest.0.0.1 c.in_default.in_default-own.rest.0.1 c.in_default.in_default-own.rest.1) ∙ by_kind c file _ refl; within = λ file sound. zero-le }

@@ -7,20 +7,16 @@ use Rattle.type_table.proofs.element_contexts.Goals as goal
 
 pub returns-in_default : goal.returns-in_default
 returns-in_default c =
-    let start = c.args in
-    no_context start.types.now (found_type_of start.context) start.count (ap found_type_of c.in_default.is)
+    no_context c.args.types.now (found_type_of c.args.context) c.args.count (ap found_type_of c.in_default.is)
 
 pub returns-in_default-tuple_of : goal.returns-in_default-tuple_of
 returns-in_default-tuple_of c =
-    let start = c.args in
-    no_tuple start.types.now (found_type_of start.context) start.count (ap found_type_of c.in-Found.is) c.tuple_of.ensures c.in_default-tuple_of.is
+    no_tuple c.args.types.now (found_type_of c.args.context) c.args.count (ap found_type_of c.in-Found.is) c.tuple_of.ensures c.in_default-tuple_of.is
 
 pub returns-then-held-count : goal.returns-then-held-count
 returns-then-held-count c =
-    let start = c.args in
-    all_contexts start.types.now (found_type_of start.context) start.count (ap found_type_of c.in-Found.is) c.tuple_of.ensures c.in-Found-tuple_of.is (sym (ap length c.words_from-held.ensures) ∙ c.if-held-count.true)
+    all_contexts c.args.types.now (found_type_of c.args.context) c.args.count (ap found_type_of c.in-Found.is) c.tuple_of.ensures c.in-Found-tuple_of.is (sym (ap length c.words_from-held.ensures) ∙ c.if-held-count.true)
 
 pub returns-else-held-count : goal.returns-else-held-count
 returns-else-held-count c =
-    let start = c.args in
-    other_count start.types.now (found_type_of start.context) start.count (ap found_type_of c.in-Found.is) c.tuple_of.ensures c.in-Found-tuple_of.is (λ e. c.if-held-count.false (ap length c.words_from-held.ensures ∙ e))
+    other_count c.args.types.now (found_type_of c.args.context) c.args.count (ap found_type_of c.in-Found.is) c.tuple_of.ensures c.in-Found-tuple_of.is (λ e. c.if-held-count.false (ap length c.words_from-held.ensures ∙ e))

@@ -11,17 +11,14 @@ use Rattle.type_table.proofs.element_hint.Goals as goal
 pub returns-in_default : goal.returns-in_default
 unfolding element_hint_read element_hint
 returns-in_default c =
-    let start = c.args in
-    λ file. record { same = ap (λ o. element_hint (table_of file start.types.now) (found_type_of o)) (sym c.in_default.is) }
+    λ file. record { same = ap (λ o. element_hint (table_of file c.args.types.now) (found_type_of o)) (sym c.in_default.is) }
 
 pub returns-in_default-array_of : goal.returns-in_default-array_of
 unfolding element_hint_read element_hint array_read
 returns-in_default-array_of c =
-    let start = c.args in
-    λ file. record { same = none_read none (λ array. some array.element) (c.array_of.ensures file).same (ap found_array_of c.in_default-array_of.is) ∙ ap (λ o. element_hint (table_of file start.types.now) (found_type_of o)) (sym c.in-Found.is) }
+    λ file. record { same = none_read none (λ array. some array.element) (c.array_of.ensures file).same (ap found_array_of c.in_default-array_of.is) ∙ ap (λ o. element_hint (table_of file c.args.types.now) (found_type_of o)) (sym c.in-Found.is) }
 
 pub returns : goal.returns
 unfolding element_hint_read element_hint array_read
 returns c =
-    let start = c.args in
-    λ file. record { same = some_read none (λ array. some array.element) (c.array_of.ensures file).same (ap found_array_of c.in-Found-array_of.is) ∙ ap (λ o. element_hint (table_of file start.types.now) (found_type_of o)) (sym c.in-Found.is) }
+    λ file. record { same = some_read none (λ array. some array.element) (c.array_of.ensures file).same (ap found_array_of c.in-Found-array_of.is) ∙ ap (λ o. element_hint (table_of file c.args.types.now) (found_type_of o)) (sym c.in-Found.is) }

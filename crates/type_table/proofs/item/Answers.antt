@@ -6,10 +6,8 @@ use Rattle.type_table.proofs.item.Goals as goal
 
 pub returns-then-place-listed : goal.returns-then-place-listed
 returns-then-place-listed c =
-    let start = c.args in
-    element_at c.words_from-listed.result.now start.i c.if-place-listed.true ∙ ap (λ l. get_elem? l start.i) c.words_from-listed.ensures
+    element_at c.words_from-listed.result.now c.args.i c.if-place-listed.true ∙ ap (λ l. get_elem? l c.args.i) c.words_from-listed.ensures
 
 pub returns-else-place-listed : goal.returns-else-place-listed
 returns-else-place-listed c =
-    let start = c.args in
-    element_past c.words_from-listed.result.now start.i c.if-place-listed.false ∙ ap (λ l. get_elem? l start.i) c.words_from-listed.ensures
+    element_past c.words_from-listed.result.now c.args.i c.if-place-listed.false ∙ ap (λ l. get_elem? l c.args.i) c.words_from-listed.ensures

@@ -11,25 +11,22 @@ use Rattle.type_table.proofs.member_type.Goals as goal
 pub returns-in_default : goal.returns-in_default
 unfolding member_read
 returns-in_default c =
-    let start = c.args in
-    record { same = none_read 4 (λ fields. let_some (field_type fields (name_of start.file.now start.name)) 4 (λ u. u)) (c.struct_of.ensures start.file.now) (ap (found_fields_of start.file.now start.types.now) c.in_default.is) }
+    record { same = none_read 4 (λ fields. let_some (field_type fields (name_of c.args.file.now c.args.name)) 4 (λ u. u)) (c.struct_of.ensures c.args.file.now) (ap (found_fields_of c.args.file.now c.args.types.now) c.in_default.is) }
 
 pub returns-in_default-field_type : goal.returns-in_default-field_type
 unfolding member_read
 returns-in_default-field_type c =
-    let start = c.args in
     record {
       same =
           none_read 4 (λ u. u) c.field_type.ensures (ap found_type_of c.in_default-field_type.is)
-          ∙ some_read 4 (λ fields. let_some (field_type fields (name_of start.file.now start.name)) 4 (λ u. u)) (c.struct_of.ensures start.file.now) (ap (found_fields_of start.file.now start.types.now) c.in-Found.is);
+          ∙ some_read 4 (λ fields. let_some (field_type fields (name_of c.args.file.now c.args.name)) 4 (λ u. u)) (c.struct_of.ensures c.args.file.now) (ap (found_fields_of c.args.file.now c.args.types.now) c.in-Found.is);
     }
 
 pub returns : goal.returns
 unfolding member_read
 returns c =
-    let start = c.args in
     record {
       same =
           some_read 4 (λ u. u) c.field_type.ensures (ap found_type_of c.in-Found-field_type.is)
-          ∙ some_read 4 (λ fields. let_some (field_type fields (name_of start.file.now start.name)) 4 (λ u. u)) (c.struct_of.ensures start.file.now) (ap (found_fields_of start.file.now start.types.now) c.in-Found.is);
+          ∙ some_read 4 (λ fields. let_some (field_type fields (name_of c.args.file.now c.args.name)) 4 (λ u. u)) (c.struct_of.ensures c.args.file.now) (ap (found_fields_of c.args.file.now c.args.types.now) c.in-Found.is);
     }

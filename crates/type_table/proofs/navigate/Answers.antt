@@ -11,26 +11,18 @@ use Rattle.type_table.proofs.navigate.Goals as goal
 pub returns-in_default : goal.returns-in_default
 unfolding navigate_read
 returns-in_default c =
-    let start = c.args in
-    let turn = c.loop-i in
-    λ file. record { same = path_no_tuple start.words.now (table_of file start.types.now) turn.at start.path.first start.path.count turn.i (omega arith) (c.tuple_of.ensures.same file) (ap (found_types_of start.types.now) c.in_default.is) ∙ sym (turn.invariant.1 file) }
+    λ file. record { same = path_no_tuple c.args.words.now (table_of file c.args.types.now) c.loop-i.at c.args.path.first c.args.path.count c.loop-i.i (omega arith) (c.tuple_of.ensures.same file) (ap (found_types_of c.args.types.now) c.in_default.is) ∙ sym (c.loop-i.invariant.1 file) }
 
 pub returns-in_default-item : goal.returns-in_default-item
 unfolding navigate_read
 returns-in_default-item c =
-    let start = c.args in
-    let turn = c.loop-i in
-    λ file. record { same = path_no_element start.words.now (table_of file start.types.now) turn.at start.path.first start.path.count turn.i (omega arith) (c.tuple_of.ensures.same file) (ap (found_types_of start.types.now) c.in-Found.is) c.item.ensures c.item_value-index.ensures (ap found_type_of c.in_default-item.is) ∙ sym (turn.invariant.1 file) }
+    λ file. record { same = path_no_element c.args.words.now (table_of file c.args.types.now) c.loop-i.at c.args.path.first c.args.path.count c.loop-i.i (omega arith) (c.tuple_of.ensures.same file) (ap (found_types_of c.args.types.now) c.in-Found.is) c.item.ensures c.item_value-index.ensures (ap found_type_of c.in_default-item.is) ∙ sym (c.loop-i.invariant.1 file) }
 
 pub loop-i-preserved : goal.loop-i-preserved
 loop-i-preserved c =
-    let start = c.args in
-    let turn = c.loop-i in
-    (omega arith, λ file. turn.invariant.1 file ∙ path_on start.words.now (table_of file start.types.now) turn.at start.path.first start.path.count turn.i (omega arith) (c.tuple_of.ensures.same file) (ap (found_types_of start.types.now) c.in-Found.is) c.item.ensures c.item_value-index.ensures (ap found_type_of c.in-Found-item.is))
+    (omega arith, λ file. c.loop-i.invariant.1 file ∙ path_on c.args.words.now (table_of file c.args.types.now) c.loop-i.at c.args.path.first c.args.path.count c.loop-i.i (omega arith) (c.tuple_of.ensures.same file) (ap (found_types_of c.args.types.now) c.in-Found.is) c.item.ensures c.item_value-index.ensures (ap found_type_of c.in-Found-item.is))
 
 pub returns : goal.returns
 unfolding navigate_read
 returns c =
-    let start = c.args in
-    let turn = c.loop-i in
-    λ file. record { same = sym (turn.invariant.1 file ∙ path_end start.words.now (table_of file start.types.now) turn.at start.path.first start.path.count turn.i (omega arith)) }
+    λ file. record { same = sym (c.loop-i.invariant.1 file ∙ path_end c.args.words.now (table_of file c.args.types.now) c.loop-i.at c.args.path.first c.args.path.count c.loop-i.i (omega arith)) }

@@ -10,13 +10,11 @@ use Rattle.type_table.proofs.param_type.Goals as goal
 pub returns-in_default : goal.returns-in_default
 unfolding param_read
 returns-in_default c =
-    let start = c.args in
-    λ file. record { same = none_read none (λ signature. get_elem? signature.params start.i) (c.signature_of.ensures.same file) (ap (found_signature_of start.types.now) c.in_default.is) }
+    λ file. record { same = none_read none (λ signature. get_elem? signature.params c.args.i) (c.signature_of.ensures.same file) (ap (found_signature_of c.args.types.now) c.in_default.is) }
 
 pub returns : goal.returns
 unfolding param_read
 returns c =
-    let start = c.args in
     λ file. record {
-      same = c.item.ensures ∙ some_read none (λ signature. get_elem? signature.params start.i) (c.signature_of.ensures.same file) (ap (found_signature_of start.types.now) c.in-Found.is);
+      same = c.item.ensures ∙ some_read none (λ signature. get_elem? signature.params c.args.i) (c.signature_of.ensures.same file) (ap (found_signature_of c.args.types.now) c.in-Found.is);
     }

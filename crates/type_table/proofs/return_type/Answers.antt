@@ -9,11 +9,9 @@ use Rattle.type_table.proofs.return_type.Goals as goal
 pub returns-in_default : goal.returns-in_default
 unfolding return_read
 returns-in_default c =
-    let start = c.args in
-    λ file. record { same = none_read none (λ signature. some signature.return_type) (c.signature_of.ensures.same file) (ap (found_signature_of start.types.now) c.in_default.is) }
+    λ file. record { same = none_read none (λ signature. some signature.return_type) (c.signature_of.ensures.same file) (ap (found_signature_of c.args.types.now) c.in_default.is) }
 
 pub returns : goal.returns
 unfolding return_read
 returns c =
-    let start = c.args in
-    λ file. record { same = some_read none (λ signature. some signature.return_type) (c.signature_of.ensures.same file) (ap (found_signature_of start.types.now) c.in-Found.is) }
+    λ file. record { same = some_read none (λ signature. some signature.return_type) (c.signature_of.ensures.same file) (ap (found_signature_of c.args.types.now) c.in-Found.is) }

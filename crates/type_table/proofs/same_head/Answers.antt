@@ -16,23 +16,14 @@ returns-then-a-b-2 c = go_on _ _ _ (eq-eqb _ _ c.if-a-b.false) (stop _ _ (ne_eqb
 pub returns-then-a-b-3 : goal.returns-then-a-b-3
 unfolding same_heads
 returns-then-a-b-3 c =
-    let if1 = c.if-a-b in
-    let if2 = c.if-a-b-2 in
-    go_on _ _ _ (eq-eqb _ _ if1.false) (go_on _ _ _ (eq-eqb _ _ if2.false) (stop _ _ (ne_eqb _ _ c.if-a-b-3.true)))
+    go_on _ _ _ (eq-eqb _ _ c.if-a-b.false) (go_on _ _ _ (eq-eqb _ _ c.if-a-b-2.false) (stop _ _ (ne_eqb _ _ c.if-a-b-3.true)))
 
 pub returns-then-a-b-4 : goal.returns-then-a-b-4
 unfolding same_heads
 returns-then-a-b-4 c =
-    let if1 = c.if-a-b in
-    let if2 = c.if-a-b-2 in
-    let if3 = c.if-a-b-3 in
-    go_on _ _ _ (eq-eqb _ _ if1.false) (go_on _ _ _ (eq-eqb _ _ if2.false) (go_on _ _ _ (eq-eqb _ _ if3.false) (stop _ _ (ne_eqb _ _ c.if-a-b-4.true))))
+    go_on _ _ _ (eq-eqb _ _ c.if-a-b.false) (go_on _ _ _ (eq-eqb _ _ c.if-a-b-2.false) (go_on _ _ _ (eq-eqb _ _ c.if-a-b-3.false) (stop _ _ (ne_eqb _ _ c.if-a-b-4.true))))
 
 pub returns : goal.returns
 unfolding same_heads
 returns c =
-    let if1 = c.if-a-b in
-    let if2 = c.if-a-b-2 in
-    let if3 = c.if-a-b-3 in
-    let if4 = c.if-a-b-4 in
-    go_on _ _ _ (eq-eqb _ _ if1.false) (go_on _ _ _ (eq-eqb _ _ if2.false) (go_on _ _ _ (eq-eqb _ _ if3.false) (go_on _ _ _ (eq-eqb _ _ if4.false) (refl))))
+    go_on _ _ _ (eq-eqb _ _ c.if-a-b.false) (go_on _ _ _ (eq-eqb _ _ c.if-a-b-2.false) (go_on _ _ _ (eq-eqb _ _ c.if-a-b-3.false) (go_on _ _ _ (eq-eqb _ _ c.if-a-b-4.false) (refl))))

@@ -9,25 +9,20 @@ use Rattle.type_table.proofs.same_names.Goals as goal
 
 pub returns-then-a-b : goal.returns-then-a-b
 returns-then-a-b c =
-    let start = c.args in
-    sym (pairs_names (name_by start.file.now) start.a.now start.b.now ∙ pairs_length (λ x y. eq_numbers (name_by start.file.now x) (name_by start.file.now y)) start.a.now start.b.now c.if-a-b.true)
+    sym (pairs_names (name_by c.args.file.now) c.args.a.now c.args.b.now ∙ pairs_length (λ x y. eq_numbers (name_by c.args.file.now x) (name_by c.args.file.now y)) c.args.a.now c.args.b.now c.if-a-b.true)
 
 pub loop-i-init : goal.loop-i-init
 loop-i-init c =
-    let start = c.args in
-    (omega arith, omega arith, pairs_names (name_by start.file.now) start.a.now start.b.now)
+    (omega arith, omega arith, pairs_names (name_by c.args.file.now) c.args.a.now c.args.b.now)
 
 pub returns-then-not-same_name : goal.returns-then-not-same_name
 returns-then-not-same_name c =
-    let start = c.args in
-    sym (c.loop-i.invariant.2 ∙ pairs_stop (λ x y. eq_numbers (name_by start.file.now x) (name_by start.file.now y)) start.a.now start.b.now c.loop-i.i (omega arith) (omega arith) (sym (c.same_name.ensures ∙ ap₂ eq_numbers (c.name_of.ensures start.file.now) (c.name_of-in-loop-i.ensures start.file.now)) ∙ c.if-not-same_name.true))
+    sym (c.loop-i.invariant.2 ∙ pairs_stop (λ x y. eq_numbers (name_by c.args.file.now x) (name_by c.args.file.now y)) c.args.a.now c.args.b.now c.loop-i.i (omega arith) (omega arith) (sym (c.same_name.ensures ∙ ap₂ eq_numbers (c.name_of.ensures c.args.file.now) (c.name_of-in-loop-i.ensures c.args.file.now)) ∙ c.if-not-same_name.true))
 
 pub loop-i-preserved : goal.loop-i-preserved
 loop-i-preserved c =
-    let start = c.args in
-    (omega arith, omega arith, c.loop-i.invariant.2 ∙ pairs_step (λ x y. eq_numbers (name_by start.file.now x) (name_by start.file.now y)) start.a.now start.b.now c.loop-i.i (omega arith) (omega arith) (sym (c.same_name.ensures ∙ ap₂ eq_numbers (c.name_of.ensures start.file.now) (c.name_of-in-loop-i.ensures start.file.now)) ∙ c.if-not-same_name.false))
+    (omega arith, omega arith, c.loop-i.invariant.2 ∙ pairs_step (λ x y. eq_numbers (name_by c.args.file.now x) (name_by c.args.file.now y)) c.args.a.now c.args.b.now c.loop-i.i (omega arith) (omega arith) (sym (c.same_name.ensures ∙ ap₂ eq_numbers (c.name_of.ensures c.args.file.now) (c.name_of-in-loop-i.ensures c.args.file.now)) ∙ c.if-not-same_name.false))
 
 pub returns : goal.returns
 returns c =
-    let start = c.args in
-    sym (c.loop-i.invariant.2 ∙ pairs_end (λ x y. eq_numbers (name_by start.file.now x) (name_by start.file.now y)) start.a.now start.b.now c.loop-i.i (omega arith) (omega arith))
+    sym (c.loop-i.invariant.2 ∙ pairs_end (λ x y. eq_numbers (name_by c.args.file.now x) (name_by c.args.file.now y)) c.args.a.now c.args.b.now c.loop-i.i (omega arith) (omega arith))

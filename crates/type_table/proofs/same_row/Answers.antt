@@ -11,9 +11,7 @@ use Rattle.type_table.proofs.same_row.Goals as goal
 pub returns-then-not-same_head : goal.returns-then-not-same_head
 unfolding same_rows
 returns-then-not-same_head c =
-    let args = c.args in
-    let head_of = c.head_of in
-    stop _ _ (ap (same_heads args.head) (sym head_of.ensures) ∙ sym c.same_head.ensures ∙ c.if-not-same_head.true)
+    stop _ _ (ap (same_heads c.args.head) (sym c.head_of.ensures) ∙ sym c.same_head.ensures ∙ c.if-not-same_head.true)
 
 pub returns-then-not-same_words : goal.returns-then-not-same_words
 unfolding same_rows

@@ -8,13 +8,9 @@ use Rattle.type_table.proofs.struct_or_error.Goals as goal
 pub returns-in-Found : goal.returns-in-Found
 unfolding struct_or_error
 returns-in-Found c =
-    let args = c.args in
-    let struct-of = c.struct_of in
-    λ file. record { same = some_read 4 (λ fields. args.t) (struct-of.ensures file) (ap (found_fields_of file args.types.now) c.in-Found.is) }
+    λ file. record { same = some_read 4 (λ fields. c.args.t) (c.struct_of.ensures file) (ap (found_fields_of file c.args.types.now) c.in-Found.is) }
 
 pub returns-in-Absent : goal.returns-in-Absent
 unfolding struct_or_error
 returns-in-Absent c =
-    let args = c.args in
-    let struct-of = c.struct_of in
-    λ file. record { same = none_read 4 (λ fields. args.t) (struct-of.ensures file) (ap (found_fields_of file args.types.now) c.in-Absent.is) }
+    λ file. record { same = none_read 4 (λ fields. c.args.t) (c.struct_of.ensures file) (ap (found_fields_of file c.args.types.now) c.in-Absent.is) }

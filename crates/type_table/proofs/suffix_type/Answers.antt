@@ -9,23 +9,19 @@ use Rattle.type_table.proofs.suffix_type.Goals as goal
 pub returns-in_default : goal.returns-in_default
 unfolding suffix_type
 returns-in_default c =
-    let start = c.args in
-    ap (λ o. suffix_type (suffix_of start.file.now o)) (sym c.in_default.is)
+    ap (λ o. suffix_type (suffix_of c.args.file.now o)) (sym c.in_default.is)
 
 pub returns-then-is_text : goal.returns-then-is_text
 unfolding suffix_type
 returns-then-is_text c =
-    let start = c.args in
-    ap (λ b. (if b then some 2 else (if eq_numbers (name_of start.file.now c.in-Named.name) (bytes "felt") then some 0 else none))) (sym c.if-is_text.true ∙ c.is_text.ensures) ∙ ap (λ o. suffix_type (suffix_of start.file.now o)) (sym c.in-Named.is)
+    ap (λ b. (if b then some 2 else (if eq_numbers (name_of c.args.file.now c.in-Named.name) (bytes "felt") then some 0 else none))) (sym c.if-is_text.true ∙ c.is_text.ensures) ∙ ap (λ o. suffix_type (suffix_of c.args.file.now o)) (sym c.in-Named.is)
 
 pub returns-then-is_text-2 : goal.returns-then-is_text-2
 unfolding suffix_type
 returns-then-is_text-2 c =
-    let start = c.args in
-    ap (λ b. if b then some 0 else none) (sym c.if-is_text-2.true ∙ c.is_text-2.ensures) ∙ ap (λ b. (if b then some 2 else (if eq_numbers (name_of start.file.now c.in-Named.name) (bytes "felt") then some 0 else none))) (sym c.if-is_text.false ∙ c.is_text.ensures) ∙ ap (λ o. suffix_type (suffix_of start.file.now o)) (sym c.in-Named.is)
+    ap (λ b. if b then some 0 else none) (sym c.if-is_text-2.true ∙ c.is_text-2.ensures) ∙ ap (λ b. (if b then some 2 else (if eq_numbers (name_of c.args.file.now c.in-Named.name) (bytes "felt") then some 0 else none))) (sym c.if-is_text.false ∙ c.is_text.ensures) ∙ ap (λ o. suffix_type (suffix_of c.args.file.now o)) (sym c.in-Named.is)
 
 pub returns : goal.returns
 unfolding suffix_type
 returns c =
-    let start = c.args in
-    ap (λ b. if b then some 0 else none) (sym c.if-is_text-2.false ∙ c.is_text-2.ensures) ∙ ap (λ b. (if b then some 2 else (if eq_numbers (name_of start.file.now c.in-Named.name) (bytes "felt") then some 0 else none))) (sym c.if-is_text.false ∙ c.is_text.ensures) ∙ ap (λ o. suffix_type (suffix_of start.file.now o)) (sym c.in-Named.is)
+    ap (λ b. if b then some 0 else none) (sym c.if-is_text-2.false ∙ c.is_text-2.ensures) ∙ ap (λ b. (if b then some 2 else (if eq_numbers (name_of c.args.file.now c.in-Named.name) (bytes "felt") then some 0 else none))) (sym c.if-is_text.false ∙ c.is_text.ensures) ∙ ap (λ o. suffix_type (suffix_of c.args.file.now o)) (sym c.in-Named.is)

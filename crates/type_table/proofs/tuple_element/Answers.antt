@@ -10,25 +10,22 @@ use Rattle.type_table.proofs.tuple_element.Goals as goal
 pub returns-in_default : goal.returns-in_default
 unfolding tuple_element_read
 returns-in_default c =
-    let start = c.args in
-    λ file. record { same = none_read 4 (λ elements. let_some (get_elem? elements start.i) 4 (λ u. u)) (c.tuple_of.ensures.same file) (ap (found_types_of start.types.now) c.in_default.is) }
+    λ file. record { same = none_read 4 (λ elements. let_some (get_elem? elements c.args.i) 4 (λ u. u)) (c.tuple_of.ensures.same file) (ap (found_types_of c.args.types.now) c.in_default.is) }
 
 pub returns-in_default-item : goal.returns-in_default-item
 unfolding tuple_element_read
 returns-in_default-item c =
-    let start = c.args in
     λ file. record {
       same =
           none_read 4 (λ u. u) c.item.ensures (ap found_type_of c.in_default-item.is)
-          ∙ some_read 4 (λ elements. let_some (get_elem? elements start.i) 4 (λ u. u)) (c.tuple_of.ensures.same file) (ap (found_types_of start.types.now) c.in-Found.is);
+          ∙ some_read 4 (λ elements. let_some (get_elem? elements c.args.i) 4 (λ u. u)) (c.tuple_of.ensures.same file) (ap (found_types_of c.args.types.now) c.in-Found.is);
     }
 
 pub returns : goal.returns
 unfolding tuple_element_read
 returns c =
-    let start = c.args in
     λ file. record {
       same =
           some_read 4 (λ u. u) c.item.ensures (ap found_type_of c.in-Found-item.is)
-          ∙ some_read 4 (λ elements. let_some (get_elem? elements start.i) 4 (λ u. u)) (c.tuple_of.ensures.same file) (ap (found_types_of start.types.now) c.in-Found.is);
+          ∙ some_read 4 (λ elements. let_some (get_elem? elements c.args.i) 4 (λ u. u)) (c.tuple_of.ensures.same file) (ap (found_types_of c.args.types.now) c.in-Found.is);
     }

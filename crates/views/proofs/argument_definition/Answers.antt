@@ -1,0 +1,15 @@
+-- `views::argument_definition` meets its contract: what stands behind each link decides. Assumes nothing.
+use Rattle.views.proofs.Nodes.{other_than_identifier, an_identifier}
+use Rattle.views.proofs.Chains.{no_expression, an_expression, argument_absent, argument_other, argument_named}
+use Rattle.views.proofs.argument_definition.Goals as goal
+
+pub returns-in_default : goal.returns-in_default
+returns-in_default c = record { same = λ file. argument_absent _ _ (no_expression file _ _ _ (c.expression_at.ensures file) c.in_default.is) }
+
+pub returns-in_default-node : goal.returns-in_default-node
+returns-in_default-node c =
+    record { same = λ file. argument_other _ _ _ (an_expression file _ _ _ (c.expression_at.ensures file) _ c.in-Found.is) (other_than_identifier file c.args.words.now c.in-Found.callee_info.node c.in_default-node.in_default-node-own.keys2) }
+
+pub returns : goal.returns
+returns c =
+    record { same = λ file. argument_named _ _ _ (an_expression file _ _ _ (c.expression_at.ensures file) _ c.in-Found.is) _ _ (an_identifier file _ _ _ c.in-Identifier.is) (c.definition_for_identifier_expr.ensures file) }
