@@ -9,19 +9,6 @@ use Rattle.type_table.specs.Layout.{data_by, table_of, names_at, items_at, items
 use Rattle.type_table.proofs.Rows.{data_past, data_kind, names_struct, no_kind}
 use Rattle.type_table.proofs.data.Goals as goal
 
--- after the words were read, whatever the kind is
-by_kind : (c : tie.After-word-at3) (file : List ℕ) (k : ℕ) → c.before.before.head_of.result.kind ≡ k
-    → data_by file k c.before.before.head_of.result (names_at c.before.before.before.before.before.before.args.types.now c.before.before.before.before.before.before.args.t) (items_at c.before.before.before.before.before.before.args.types.now c.before.before.before.before.before.before.args.t)
-    ≡ data_of (table_of file c.before.before.before.before.before.before.args.types.now) c.before.before.before.before.before.before.args.t
-by_kind c file k kind = sym (data_kind file c.before.before.before.before.before.before.args.types.now c.before.before.before.before.before.before.args.t k c.before.before.head_of.result (omega (arith, c.before.before.before.before.word_at.ensures)) c.before.before.head_of.ensures kind)
-
--- the list of a row lies within the items
-within : (c : tie.After-word-at3) (file : List ℕ) → Sound file c.before.before.before.before.before.before.args.types.now
-    → c.before.word-at2.result + c.word-at3.result ≤ item_count c.before.before.before.before.before.before.args.types.now
-within c file sound =
-    let start = c.before.before.before.before.before.before in
-    omega (arith, c.before.word-at2.ensures, c.word-at3.ensures, (sound.rows start.args.t (omega (arith, c.before.before.before.before.word_at.ensures))).within)
-
 pub returns-then-word_at-t : goal.returns-then-word_at-t
 returns-then-word_at-t c =
     record {
@@ -31,32 +18,32 @@ returns-then-word_at-t c =
 
 pub returns-in-0 : goal.returns-in-0
 unfolding data_by
-returns-in-0 c = record { same = λ file. by_kind c file 0 c.in-0.is; within = λ file sound. zero-le }
+returns-in-0 c = record { same = λ file. sym (data_kind file c.args.types.now c.args.t 0 c.head_of-head.result (omega (arith, c.word_at.ensures)) c.head_of-head.ensures c.in-0.is); within = λ file sound. zero-le }
 
 pub returns-in-1 : goal.returns-in-1
 unfolding data_by
-returns-in-1 c = record { same = λ file. by_kind c file 1 c.in-1.is; within = λ file sound. zero-le }
+returns-in-1 c = record { same = λ file. sym (data_kind file c.args.types.now c.args.t 1 c.head_of-head.result (omega (arith, c.word_at.ensures)) c.head_of-head.ensures c.in-1.is); within = λ file sound. zero-le }
 
 pub returns-in-2 : goal.returns-in-2
 unfolding data_by
-returns-in-2 c = record { same = λ file. by_kind c file 2 c.in-2.is; within = λ file sound. zero-le }
+returns-in-2 c = record { same = λ file. sym (data_kind file c.args.types.now c.args.t 2 c.head_of-head.result (omega (arith, c.word_at.ensures)) c.head_of-head.ensures c.in-2.is); within = λ file sound. zero-le }
 
 pub returns-in-3 : goal.returns-in-3
 unfolding data_by
-returns-in-3 c = record { same = λ file. by_kind c file 3 c.in-3.is; within = λ file sound. zero-le }
+returns-in-3 c = record { same = λ file. sym (data_kind file c.args.types.now c.args.t 3 c.head_of-head.result (omega (arith, c.word_at.ensures)) c.head_of-head.ensures c.in-3.is); within = λ file sound. zero-le }
 
 pub returns-in-5 : goal.returns-in-5
 unfolding data_by
 returns-in-5 c =
-    record { same = λ file. ap₂ (λ x y. TypeData.Tuple (items_from c.args.types.now x y)) c.word_at-first.ensures c.word_at-count.ensures ∙ by_kind c file 5 c.in-5.is; within = λ file sound. within c file sound }
+    record { same = λ file. ap₂ (λ x y. TypeData.Tuple (items_from c.args.types.now x y)) c.word_at-first.ensures c.word_at-count.ensures ∙ sym (data_kind file c.args.types.now c.args.t 5 c.head_of-head.result (omega (arith, c.word_at.ensures)) c.head_of-head.ensures c.in-5.is); within = λ file sound. omega (arith, c.word_at-first.ensures, c.word_at-count.ensures, (sound.rows c.args.t (omega (arith, c.word_at.ensures))).within) }
 
 pub returns-in-6 : goal.returns-in-6
 unfolding data_by
-returns-in-6 c = record { same = λ file. by_kind c file 6 c.in-6.is; within = λ file sound. zero-le }
+returns-in-6 c = record { same = λ file. sym (data_kind file c.args.types.now c.args.t 6 c.head_of-head.result (omega (arith, c.word_at.ensures)) c.head_of-head.ensures c.in-6.is); within = λ file sound. zero-le }
 
 pub returns-in-7 : goal.returns-in-7
 unfolding data_by
-returns-in-7 c = record { same = λ file. by_kind c file 7 c.in-7.is; within = λ file sound. zero-le }
+returns-in-7 c = record { same = λ file. sym (data_kind file c.args.types.now c.args.t 7 c.head_of-head.result (omega (arith, c.word_at.ensures)) c.head_of-head.ensures c.in-7.is); within = λ file sound. zero-le }
 
 pub returns-in-8 : goal.returns-in-8
 unfolding data_by
@@ -66,14 +53,14 @@ returns-in-8 c =
           λ file.
           ap₂ (λ x y. TypeData.Struct c.head_of-head.result.home c.head_of-head.result.definition (fields_of file (names_from c.args.types.now x y) (items_from c.args.types.now x y))) c.word_at-first.ensures c.word_at-count.ensures
           ∙ ap (λ l. TypeData.Struct c.head_of-head.result.home c.head_of-head.result.definition (fields_of file l (items_at c.args.types.now c.args.t))) (sym (names_struct c.args.types.now c.args.t c.head_of-head.result c.head_of-head.ensures c.in-8.is))
-          ∙ by_kind c file 8 c.in-8.is;
-      within = λ file sound. within c file sound;
+          ∙ sym (data_kind file c.args.types.now c.args.t 8 c.head_of-head.result (omega (arith, c.word_at.ensures)) c.head_of-head.ensures c.in-8.is);
+      within = λ file sound. omega (arith, c.word_at-first.ensures, c.word_at-count.ensures, (sound.rows c.args.t (omega (arith, c.word_at.ensures))).within);
     }
 
 pub returns-in-9 : goal.returns-in-9
 unfolding data_by
 returns-in-9 c =
-    record { same = λ file. ap₂ (λ x y. TypeData.Function c.head_of-head.result.home c.head_of-head.result.definition (items_from c.args.types.now x y) c.head_of-head.result.element) c.word_at-first.ensures c.word_at-count.ensures ∙ by_kind c file 9 c.in-9.is; within = λ file sound. within c file sound }
+    record { same = λ file. ap₂ (λ x y. TypeData.Function c.head_of-head.result.home c.head_of-head.result.definition (items_from c.args.types.now x y) c.head_of-head.result.element) c.word_at-first.ensures c.word_at-count.ensures ∙ sym (data_kind file c.args.types.now c.args.t 9 c.head_of-head.result (omega (arith, c.word_at.ensures)) c.head_of-head.ensures c.in-9.is); within = λ file sound. omega (arith, c.word_at-first.ensures, c.word_at-count.ensures, (sound.rows c.args.t (omega (arith, c.word_at.ensures))).within) }
 
 pub returns-in_default : goal.returns-in_default
-returns-in_default c = record { same = λ file. sym (no_kind file _ _ _ _ c.in_default.in_default-own.rest.0.0.0.0.0.0.0.0.1 c.in_default.in_default-own.rest.0.0.0.0.0.0.0.1 c.in_default.in_default-own.rest.0.0.0.0.0.0.1 c.in_default.in_default-own.rest.0.0.0.0.0.1 c.in_default.in_default-own.rest.0.0.0.0.1 c.in_default.in_default-own.rest.0.0.0.1 c.in_default.in_default-own.rest.0.0.1 c.in_default.in_default-own.rest.0.1 c.in_default.in_default-own.rest.1) ∙ by_kind c file _ refl; within = λ file sound. zero-le }
+returns-in_default c = record { same = λ file. sym (no_kind file _ _ _ _ c.in_default.in_default-own.rest.0.0.0.0.0.0.0.0.1 c.in_default.in_default-own.rest.0.0.0.0.0.0.0.1 c.in_default.in_default-own.rest.0.0.0.0.0.0.1 c.in_default.in_default-own.rest.0.0.0.0.0.1 c.in_default.in_default-own.rest.0.0.0.0.1 c.in_default.in_default-own.rest.0.0.0.1 c.in_default.in_default-own.rest.0.0.1 c.in_default.in_default-own.rest.0.1 c.in_default.in_default-own.rest.1) ∙ sym (data_kind file c.args.types.now c.args.t _ c.head_of-head.result (omega (arith, c.word_at.ensures)) c.head_of-head.ensures refl); within = λ file sound. zero-le }

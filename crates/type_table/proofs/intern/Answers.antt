@@ -3,6 +3,7 @@ use mathlib.Core.Path.{sym, ap, ◌∙◌}
 use native.Mathlib.Omega.{arith}
 use Rattle.type_table.specs.Layout.{data_from}
 use Rattle.type_table.specs.Meaning.{found_type_of}
+use Rattle.type_table.proofs.Grow.{names_few}
 use Rattle.type_table.proofs.Interned.{interns_old, full_types, full_items, interns_new}
 use Rattle.type_table.proofs.intern.Goals as goal
 
@@ -12,7 +13,11 @@ returns-then-t-ge-MAX_TYPES c =
 
 pub returns-then-held-n : goal.returns-then-held-n
 returns-then-held-n c =
-    full_items c.args.file.now c.args.head c.args.names.now c.args.items.now c.args.types.now c.requires.sound c.requires.canonical.0 (sym c.find_type.ensures ∙ ap found_type_of c.in-Absent.is) c.if-t-ge-MAX_TYPES.false (omega (arith, c.if-held-n.true, c.requires.sound.room))
+    full_items c.args.file.now c.args.head c.args.names.now c.args.items.now c.args.types.now c.requires.sound c.requires.canonical (sym c.find_type.ensures ∙ ap found_type_of c.in-Absent.is) c.if-t-ge-MAX_TYPES.false (omega (arith, c.if-held-n.true, c.requires.sound.room))
+
+pub add_row-requires-clause-names_in_bounds : goal.add_row-requires-clause-names_in_bounds
+add_row-requires-clause-names_in_bounds c =
+     names_few c.args.file.now c.args.head c.args.names.now c.args.items.now c.requires.canonical
 
 pub returns-in-Found : goal.returns-in-Found
 returns-in-Found c =
@@ -20,4 +25,4 @@ returns-in-Found c =
 
 pub returns-else-held-n : goal.returns-else-held-n
 returns-else-held-n c =
-    interns_new c.args.file.now c.args.head c.args.names.now c.args.items.now c.args.types.now c.requires.sound c.requires.canonical.0 (sym c.find_type.ensures ∙ ap found_type_of c.in-Absent.is) c.if-t-ge-MAX_TYPES.false (omega (arith, c.if-held-n.false, c.requires.sound.room)) c.requires.canonical.1 c.add_row.new.0 c.add_row.ensures
+    interns_new c.args.file.now c.args.head c.args.names.now c.args.items.now c.args.types.now c.requires.sound c.requires.canonical (sym c.find_type.ensures ∙ ap found_type_of c.in-Absent.is) c.if-t-ge-MAX_TYPES.false (omega (arith, c.if-held-n.false, c.requires.sound.room)) c.requires.all_below c.add_row.new.types c.add_row.ensures
