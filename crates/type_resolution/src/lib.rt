@@ -225,7 +225,7 @@ fn enter_expression(
 // ------------------------------------------------------------------ resolve_ast_type
 
 // `resolve_ast_type`.
-#[cycle(all_args_arr_array_ast_type_bin_call_def_def_type_elems_empty_expr_type_fields_fn_signature_index_lit_member_named_new_node_only_origin_rep_same_sig_struct_data_tidx_tup_tuple_ty_un_var)]
+#[cycle(resolution)]
 fn ast_type(
     file: &[u8],
     words: &[u32],
@@ -249,7 +249,7 @@ fn ast_type(
 }
 
 // A type expression by its kind.
-#[cycle(all_args_arr_array_ast_type_bin_call_def_def_type_elems_empty_expr_type_fields_fn_signature_index_lit_member_named_new_node_only_origin_rep_same_sig_struct_data_tidx_tup_tuple_ty_un_var)]
+#[cycle(resolution)]
 fn ty(
     file: &[u8],
     words: &[u32],
@@ -284,7 +284,7 @@ fn ty(
 }
 
 // The type of a definition that a name led to, where it is a struct; else error.
-#[cycle(all_args_arr_array_ast_type_bin_call_def_def_type_elems_empty_expr_type_fields_fn_signature_index_lit_member_named_new_node_only_origin_rep_same_sig_struct_data_tidx_tup_tuple_ty_un_var)]
+#[cycle(resolution)]
 fn named(
     file: &[u8],
     words: &[u32],
@@ -307,7 +307,7 @@ fn named(
 }
 
 // A tuple type.
-#[cycle(all_args_arr_array_ast_type_bin_call_def_def_type_elems_empty_expr_type_fields_fn_signature_index_lit_member_named_new_node_only_origin_rep_same_sig_struct_data_tidx_tup_tuple_ty_un_var)]
+#[cycle(resolution)]
 fn tup(
     file: &[u8],
     words: &[u32],
@@ -340,7 +340,7 @@ fn tup(
 }
 
 // An array type; directly of arrays it is error.
-#[cycle(all_args_arr_array_ast_type_bin_call_def_def_type_elems_empty_expr_type_fields_fn_signature_index_lit_member_named_new_node_only_origin_rep_same_sig_struct_data_tidx_tup_tuple_ty_un_var)]
+#[cycle(resolution)]
 fn array(
     file: &[u8],
     words: &[u32],
@@ -368,7 +368,7 @@ fn array(
 }
 
 // Each T of a list, in the scope.
-#[cycle(all_args_arr_array_ast_type_bin_call_def_def_type_elems_empty_expr_type_fields_fn_signature_index_lit_member_named_new_node_only_origin_rep_same_sig_struct_data_tidx_tup_tuple_ty_un_var)]
+#[cycle(resolution)]
 fn all(
     file: &[u8],
     words: &[u32],
@@ -406,7 +406,7 @@ fn all(
 // ------------------------------------------------------------------ definition_semantic_type
 
 // `definition_semantic_type`.
-#[cycle(all_args_arr_array_ast_type_bin_call_def_def_type_elems_empty_expr_type_fields_fn_signature_index_lit_member_named_new_node_only_origin_rep_same_sig_struct_data_tidx_tup_tuple_ty_un_var)]
+#[cycle(resolution)]
 fn def_type(
     file: &[u8],
     words: &[u32],
@@ -433,7 +433,7 @@ fn def_type(
 }
 
 // A definition by its kind.
-#[cycle(all_args_arr_array_ast_type_bin_call_def_def_type_elems_empty_expr_type_fields_fn_signature_index_lit_member_named_new_node_only_origin_rep_same_sig_struct_data_tidx_tup_tuple_ty_un_var)]
+#[cycle(resolution)]
 fn def(
     file: &[u8],
     words: &[u32],
@@ -510,7 +510,7 @@ fn def(
 }
 
 // The type of a const or a let: its T, else its value's, else the given one.
-#[cycle(all_args_arr_array_ast_type_bin_call_def_def_type_elems_empty_expr_type_fields_fn_signature_index_lit_member_named_new_node_only_origin_rep_same_sig_struct_data_tidx_tup_tuple_ty_un_var)]
+#[cycle(resolution)]
 fn var(
     file: &[u8],
     words: &[u32],
@@ -547,7 +547,7 @@ fn var(
 // ------------------------------------------------------------------ struct_semantic_data, function_semantic_signature
 
 // `struct_semantic_data`.
-#[cycle(all_args_arr_array_ast_type_bin_call_def_def_type_elems_empty_expr_type_fields_fn_signature_index_lit_member_named_new_node_only_origin_rep_same_sig_struct_data_tidx_tup_tuple_ty_un_var)]
+#[cycle(resolution)]
 fn struct_data(
     file: &[u8],
     words: &[u32],
@@ -579,7 +579,7 @@ fn struct_data(
 }
 
 // A struct's fields, and its type.
-#[cycle(all_args_arr_array_ast_type_bin_call_def_def_type_elems_empty_expr_type_fields_fn_signature_index_lit_member_named_new_node_only_origin_rep_same_sig_struct_data_tidx_tup_tuple_ty_un_var)]
+#[cycle(resolution)]
 fn fields(
     file: &[u8],
     words: &[u32],
@@ -616,7 +616,7 @@ fn fields(
 }
 
 // `function_semantic_signature`.
-#[cycle(all_args_arr_array_ast_type_bin_call_def_def_type_elems_empty_expr_type_fields_fn_signature_index_lit_member_named_new_node_only_origin_rep_same_sig_struct_data_tidx_tup_tuple_ty_un_var)]
+#[cycle(resolution)]
 fn fn_signature(
     file: &[u8],
     words: &[u32],
@@ -648,7 +648,7 @@ fn fn_signature(
 }
 
 // A function's parameters, then its return type, and its type.
-#[cycle(all_args_arr_array_ast_type_bin_call_def_def_type_elems_empty_expr_type_fields_fn_signature_index_lit_member_named_new_node_only_origin_rep_same_sig_struct_data_tidx_tup_tuple_ty_un_var)]
+#[cycle(resolution)]
 fn sig(
     file: &[u8],
     words: &[u32],
@@ -681,7 +681,7 @@ fn sig(
 // ------------------------------------------------------------------ expression_semantic_type
 
 // `expression_semantic_type`.
-#[cycle(all_args_arr_array_ast_type_bin_call_def_def_type_elems_empty_expr_type_fields_fn_signature_index_lit_member_named_new_node_only_origin_rep_same_sig_struct_data_tidx_tup_tuple_ty_un_var)]
+#[cycle(resolution)]
 fn expr_type(
     file: &[u8],
     words: &[u32],
@@ -729,7 +729,7 @@ fn expr_type(
 }
 
 // The expected type: a given context overrides the origin.
-#[cycle(all_args_arr_array_ast_type_bin_call_def_def_type_elems_empty_expr_type_fields_fn_signature_index_lit_member_named_new_node_only_origin_rep_same_sig_struct_data_tidx_tup_tuple_ty_un_var)]
+#[cycle(resolution)]
 fn origin(
     file: &[u8],
     words: &[u32],
@@ -796,7 +796,7 @@ fn origin(
 }
 
 // An expression by its node, in a context.
-#[cycle(all_args_arr_array_ast_type_bin_call_def_def_type_elems_empty_expr_type_fields_fn_signature_index_lit_member_named_new_node_only_origin_rep_same_sig_struct_data_tidx_tup_tuple_ty_un_var)]
+#[cycle(resolution)]
 fn node(
     file: &[u8],
     words: &[u32],
@@ -872,7 +872,7 @@ fn node(
 }
 
 // A number: suffix, then expected T, then context, then felt.
-#[cycle(all_args_arr_array_ast_type_bin_call_def_def_type_elems_empty_expr_type_fields_fn_signature_index_lit_member_named_new_node_only_origin_rep_same_sig_struct_data_tidx_tup_tuple_ty_un_var)]
+#[cycle(resolution)]
 fn lit(
     file: &[u8],
     words: &[u32],
@@ -901,7 +901,7 @@ fn lit(
 }
 
 // `new`: the count is asked first, for its demand alone, as a felt; then the element's T.
-#[cycle(all_args_arr_array_ast_type_bin_call_def_def_type_elems_empty_expr_type_fields_fn_signature_index_lit_member_named_new_node_only_origin_rep_same_sig_struct_data_tidx_tup_tuple_ty_un_var)]
+#[cycle(resolution)]
 fn new(
     file: &[u8],
     words: &[u32],
@@ -935,7 +935,7 @@ fn new(
 }
 
 // A child that is there, for its demand alone: of the answer only a refusal counts.
-#[cycle(all_args_arr_array_ast_type_bin_call_def_def_type_elems_empty_expr_type_fields_fn_signature_index_lit_member_named_new_node_only_origin_rep_same_sig_struct_data_tidx_tup_tuple_ty_un_var)]
+#[cycle(resolution)]
 fn only(
     file: &[u8],
     words: &[u32],
@@ -956,7 +956,7 @@ fn only(
 }
 
 // An operator of one operand, which is asked in the operator's own context.
-#[cycle(all_args_arr_array_ast_type_bin_call_def_def_type_elems_empty_expr_type_fields_fn_signature_index_lit_member_named_new_node_only_origin_rep_same_sig_struct_data_tidx_tup_tuple_ty_un_var)]
+#[cycle(resolution)]
 fn un(
     file: &[u8],
     words: &[u32],
@@ -985,7 +985,7 @@ fn un(
 }
 
 // An operator of two operands: the one that is asked second has the first one's type as its context.
-#[cycle(all_args_arr_array_ast_type_bin_call_def_def_type_elems_empty_expr_type_fields_fn_signature_index_lit_member_named_new_node_only_origin_rep_same_sig_struct_data_tidx_tup_tuple_ty_un_var)]
+#[cycle(resolution)]
 fn bin(
     file: &[u8],
     words: &[u32],
@@ -1049,7 +1049,7 @@ fn bin(
 }
 
 // A field of a struct; error where the object is missing or no struct.
-#[cycle(all_args_arr_array_ast_type_bin_call_def_def_type_elems_empty_expr_type_fields_fn_signature_index_lit_member_named_new_node_only_origin_rep_same_sig_struct_data_tidx_tup_tuple_ty_un_var)]
+#[cycle(resolution)]
 fn member(
     file: &[u8],
     words: &[u32],
@@ -1084,7 +1084,7 @@ fn member(
 }
 
 // A call: a built-in gives unit before anything is asked. The arguments are asked only where the callee is a function, and don't bear on the type.
-#[cycle(all_args_arr_array_ast_type_bin_call_def_def_type_elems_empty_expr_type_fields_fn_signature_index_lit_member_named_new_node_only_origin_rep_same_sig_struct_data_tidx_tup_tuple_ty_un_var)]
+#[cycle(resolution)]
 fn call(
     file: &[u8],
     words: &[u32],
@@ -1119,7 +1119,7 @@ fn call(
 }
 
 // Each argument of a call that is there, with its parameter as context.
-#[cycle(all_args_arr_array_ast_type_bin_call_def_def_type_elems_empty_expr_type_fields_fn_signature_index_lit_member_named_new_node_only_origin_rep_same_sig_struct_data_tidx_tup_tuple_ty_un_var)]
+#[cycle(resolution)]
 fn args(
     file: &[u8],
     words: &[u32],
@@ -1152,7 +1152,7 @@ fn args(
 }
 
 // An element of an array or behind a pointer; the index is asked for its demand alone, as a felt.
-#[cycle(all_args_arr_array_ast_type_bin_call_def_def_type_elems_empty_expr_type_fields_fn_signature_index_lit_member_named_new_node_only_origin_rep_same_sig_struct_data_tidx_tup_tuple_ty_un_var)]
+#[cycle(resolution)]
 fn index(
     file: &[u8],
     words: &[u32],
@@ -1197,7 +1197,7 @@ fn index(
 }
 
 // A tuple; error where an element is missing.
-#[cycle(all_args_arr_array_ast_type_bin_call_def_def_type_elems_empty_expr_type_fields_fn_signature_index_lit_member_named_new_node_only_origin_rep_same_sig_struct_data_tidx_tup_tuple_ty_un_var)]
+#[cycle(resolution)]
 fn tuple(
     file: &[u8],
     words: &[u32],
@@ -1238,7 +1238,7 @@ fn tuple(
 }
 
 // Each element of a tuple that is there, with its context.
-#[cycle(all_args_arr_array_ast_type_bin_call_def_def_type_elems_empty_expr_type_fields_fn_signature_index_lit_member_named_new_node_only_origin_rep_same_sig_struct_data_tidx_tup_tuple_ty_un_var)]
+#[cycle(resolution)]
 fn elems(
     file: &[u8],
     words: &[u32],
@@ -1282,7 +1282,7 @@ fn elems(
 }
 
 // An element of a tuple by its number.
-#[cycle(all_args_arr_array_ast_type_bin_call_def_def_type_elems_empty_expr_type_fields_fn_signature_index_lit_member_named_new_node_only_origin_rep_same_sig_struct_data_tidx_tup_tuple_ty_un_var)]
+#[cycle(resolution)]
 fn tidx(
     file: &[u8],
     words: &[u32],
@@ -1315,7 +1315,7 @@ fn tidx(
 }
 
 // An array: its first element says what the others must fit.
-#[cycle(all_args_arr_array_ast_type_bin_call_def_def_type_elems_empty_expr_type_fields_fn_signature_index_lit_member_named_new_node_only_origin_rep_same_sig_struct_data_tidx_tup_tuple_ty_un_var)]
+#[cycle(resolution)]
 fn arr(
     file: &[u8],
     words: &[u32],
@@ -1351,7 +1351,7 @@ fn arr(
 }
 
 // An empty array: of the context's element, else its expected T, if that is an array of size 0.
-#[cycle(all_args_arr_array_ast_type_bin_call_def_def_type_elems_empty_expr_type_fields_fn_signature_index_lit_member_named_new_node_only_origin_rep_same_sig_struct_data_tidx_tup_tuple_ty_un_var)]
+#[cycle(resolution)]
 fn empty(
     file: &[u8],
     words: &[u32],
@@ -1389,7 +1389,7 @@ fn empty(
 }
 
 // The elements of an array after the first, up to one that is missing or doesn't fit.
-#[cycle(all_args_arr_array_ast_type_bin_call_def_def_type_elems_empty_expr_type_fields_fn_signature_index_lit_member_named_new_node_only_origin_rep_same_sig_struct_data_tidx_tup_tuple_ty_un_var)]
+#[cycle(resolution)]
 fn same(
     file: &[u8],
     words: &[u32],
@@ -1437,7 +1437,7 @@ fn same(
 }
 
 // An array of one element, many times.
-#[cycle(all_args_arr_array_ast_type_bin_call_def_def_type_elems_empty_expr_type_fields_fn_signature_index_lit_member_named_new_node_only_origin_rep_same_sig_struct_data_tidx_tup_tuple_ty_un_var)]
+#[cycle(resolution)]
 fn rep(
     file: &[u8],
     words: &[u32],

@@ -1,0 +1,21 @@
+-- The text of a type written by its kind: an element has a lower number than its holder, so the calls end. Assumes nothing.
+use Prim.Native.Nat.{◌+◌, ◌*◌, ◌-◌}
+use Rattle.type_text.proofs.+write_array_write_list_write_pointer_write_rest_write_tuple_write_type.Given as goal
+
+abbrev pub decreases-write_array : goal.decreases-write_array
+decreases-write_array l = 4 * l.element + 4
+
+abbrev pub decreases-write_list : goal.decreases-write_list
+decreases-write_list l = 4 * l.holder + 1
+
+abbrev pub decreases-write_pointer : goal.decreases-write_pointer
+decreases-write_pointer l = 4 * l.element + 4
+
+abbrev pub decreases-write_rest : goal.decreases-write_rest
+decreases-write_rest l = 4 * l.holder
+
+abbrev pub decreases-write_tuple : goal.decreases-write_tuple
+decreases-write_tuple l = 4 * l.holder + 2
+
+abbrev pub decreases-write_type : goal.decreases-write_type
+decreases-write_type l = 4 * l.t + 3
