@@ -20,18 +20,24 @@ loop-left-preserved c = (c.loop-left.invariant.0, λ file. c.loop-left.invariant
 pub definitions-preserved : goal.definitions-preserved
 definitions-preserved c =
     elim c.if-is_function_row.branch [
-      then-is_function_row+else-loop-left-test w ↦
-          (w.found-is ∙ w.loop-left.invariant.0 ∙ c.definitions.invariant.0, λ file. c.definitions.invariant.1 file ∙ first_miss _ _ _ _ _ _ c.definitions-test.true
-          (a_function _ _ _ _ (c.is_function_row.ensures file) _ _ w.if-is_function_row.true (w.definition_scope-scope.ensures file)
-          (w.loop-left.invariant.1 file ∙ met_end _ _ _ _ w.loop-left-test.false)) refl)
-      | then-is_function_row+then-loop-left-test+else-scope-at+in_default w ↦
-          (w.found-is ∙ w.loop-left.invariant.0 ∙ c.definitions.invariant.0, λ file. c.definitions.invariant.1 file ∙ first_miss _ _ _ _ _ _ c.definitions-test.true
-          (a_function _ _ _ _ (c.is_function_row.ensures file) _ _ w.if-is_function_row.true (w.definition_scope-scope.ensures file)
-          (w.loop-left.invariant.1 file
-          ∙ met_top _ _ _ _ _ w.loop-left-test.true w.if-scope-at.false (w.parent_scope.ensures file) (ap scope_link_of w.in_default.is))) refl)
-      | else-is_function_row w ↦
-          (w.found-is ∙ c.definitions.invariant.0, λ file. c.definitions.invariant.1 file ∙ first_miss _ _ _ _ _ _ c.definitions-test.true
-          (no_function _ _ _ _ (c.is_function_row.ensures file) w.if-is_function_row.false) refl)
+      | then-is_function_row+else-loop-left-test w ↦ (
+        w.found-is ∙ w.loop-left.invariant.0 ∙ c.definitions.invariant.0,
+        λ file. c.definitions.invariant.1 file ∙ first_miss _ _ _ _ _ _ c.definitions-test.true
+            (a_function _ _ _ _ (c.is_function_row.ensures file) _ _ w.if-is_function_row.true (w.definition_scope-scope.ensures file)
+            (w.loop-left.invariant.1 file ∙ met_end _ _ _ _ w.loop-left-test.false)) refl,
+      )
+      | then-is_function_row+then-loop-left-test+else-scope-at+in_default w ↦ (
+        w.found-is ∙ w.loop-left.invariant.0 ∙ c.definitions.invariant.0,
+        λ file. c.definitions.invariant.1 file ∙ first_miss _ _ _ _ _ _ c.definitions-test.true
+            (a_function _ _ _ _ (c.is_function_row.ensures file) _ _ w.if-is_function_row.true (w.definition_scope-scope.ensures file)
+            (w.loop-left.invariant.1 file
+            ∙ met_top _ _ _ _ _ w.loop-left-test.true w.if-scope-at.false (w.parent_scope.ensures file) (ap scope_link_of w.in_default.is))) refl,
+      )
+      | else-is_function_row w ↦ (
+        w.found-is ∙ c.definitions.invariant.0,
+        λ file. c.definitions.invariant.1 file ∙ first_miss _ _ _ _ _ _ c.definitions-test.true
+            (no_function _ _ _ _ (c.is_function_row.ensures file) w.if-is_function_row.false) refl,
+      )
     ]
 
 pub returns-after-definitions : goal.returns-after-definitions

@@ -15,13 +15,12 @@ returns-then-same_name c =
     (ap (λ l. eq_numbers l (name_of c.args.file.now c.args.name)) (sym (c.name_of.ensures c.args.file.now)) ∙ sym c.same_name.ensures ∙ c.if-same_name.true))
 
 pub loop-i-preserved : goal.loop-i-preserved
-loop-i-preserved c =
-    (
-      omega arith,
-      c.loop-i.invariant.1,
-      c.loop-i.invariant.2 ∙ field_there c.args.file.now c.words_from-names.result.now c.words_from-items.result.now (name_of c.args.file.now c.args.name) c.loop-i.i (omega arith) (omega arith)
-          (ap (λ l. eq_numbers l (name_of c.args.file.now c.args.name)) (sym (c.name_of.ensures c.args.file.now)) ∙ sym c.same_name.ensures ∙ c.if-same_name.false),
-    )
+loop-i-preserved c = (
+  omega arith,
+  c.loop-i.invariant.1,
+  c.loop-i.invariant.2 ∙ field_there c.args.file.now c.words_from-names.result.now c.words_from-items.result.now (name_of c.args.file.now c.args.name) c.loop-i.i (omega arith) (omega arith)
+      (ap (λ l. eq_numbers l (name_of c.args.file.now c.args.name)) (sym (c.name_of.ensures c.args.file.now)) ∙ sym c.same_name.ensures ∙ c.if-same_name.false),
+)
 
 pub returns : goal.returns
 returns c =

@@ -17,7 +17,7 @@ returns-then-held-n c =
 
 pub add_row-requires-clause-names_in_bounds : goal.add_row-requires-clause-names_in_bounds
 add_row-requires-clause-names_in_bounds c =
-     names_few c.args.file.now c.args.head c.args.names.now c.args.items.now c.requires.canonical
+    names_few c.args.file.now c.args.head c.args.names.now c.args.items.now c.requires.canonical
 
 pub returns-in-Found : goal.returns-in-Found
 returns-in-Found c =

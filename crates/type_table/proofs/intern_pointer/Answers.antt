@@ -8,12 +8,12 @@ use Rattle.type_table.proofs.intern_pointer.Goals as goal
 pub intern-requires-clause-all_below : goal.intern-requires-clause-all_below
 unfolding data_from data_by row_types
 intern-requires-clause-all_below c =
-     below_cons _ _ [] c.requires.element_bound (below_none _)
+    below_cons _ _ [] c.requires.element_bound (below_none _)
 
 pub intern-requires-clause-canonical : goal.intern-requires-clause-canonical
 unfolding data_from data_by row_types
 intern-requires-clause-canonical c =
-     pointer_canonical c.args.file.now c.args.element
+    pointer_canonical c.args.file.now c.args.element
 
 pub returns : goal.returns
 unfolding data_from data_by

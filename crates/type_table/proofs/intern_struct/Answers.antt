@@ -12,12 +12,12 @@ use Rattle.type_table.proofs.intern_struct.Goals as goal
 pub intern-requires-clause-all_below : goal.intern-requires-clause-all_below
 unfolding data_from data_by row_types
 intern-requires-clause-all_below c =
-    let same = length-take-le c.args.fields.count c.copy_names.new.names (omega (arith, c.copy_names.ensures.same_length, c.requires.elements_len.1)) ∙ sym c.requires.elements_len.0 in  struct_below _ c.args.file.now (take c.args.fields.count c.copy_names.new.names) c.args.elements.now same c.requires.all_below
+    let same = length-take-le c.args.fields.count c.copy_names.new.names (omega (arith, c.copy_names.ensures.same_length, c.requires.elements_len.1)) ∙ sym c.requires.elements_len.0 in struct_below _ c.args.file.now (take c.args.fields.count c.copy_names.new.names) c.args.elements.now same c.requires.all_below
 
 pub intern-requires-clause-canonical : goal.intern-requires-clause-canonical
 unfolding data_from data_by row_types
 intern-requires-clause-canonical c =
-    let same = length-take-le c.args.fields.count c.copy_names.new.names (omega (arith, c.copy_names.ensures.same_length, c.requires.elements_len.1)) ∙ sym c.requires.elements_len.0 in  struct_canonical c.args.file.now c.args.m c.args.d (take c.args.fields.count c.copy_names.new.names) c.args.elements.now same
+    let same = length-take-le c.args.fields.count c.copy_names.new.names (omega (arith, c.copy_names.ensures.same_length, c.requires.elements_len.1)) ∙ sym c.requires.elements_len.0 in struct_canonical c.args.file.now c.args.m c.args.d (take c.args.fields.count c.copy_names.new.names) c.args.elements.now same
 
 pub returns : goal.returns
 returns c =

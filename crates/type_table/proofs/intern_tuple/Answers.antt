@@ -7,12 +7,12 @@ use Rattle.type_table.proofs.intern_tuple.Goals as goal
 pub intern-requires-clause-all_below : goal.intern-requires-clause-all_below
 unfolding data_from data_by row_types
 intern-requires-clause-all_below c =
-     c.requires.all_below
+    c.requires.all_below
 
 pub intern-requires-clause-canonical : goal.intern-requires-clause-canonical
 unfolding data_from data_by row_types
 intern-requires-clause-canonical c =
-     tuple_canonical c.args.file.now c.args.elements.now
+    tuple_canonical c.args.file.now c.args.elements.now
 
 pub returns : goal.returns
 unfolding data_from data_by
