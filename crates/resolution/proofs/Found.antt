@@ -8,7 +8,7 @@ use mathlib.Core.Option.{Option, none, some}
 use Rattle.model.specs.Common.{or_else}
 use Rattle.resolution.specs.TypeData.{TypeData}
 use Rattle.resolution.specs.Types.{Table}
-use Rattle.resolution.specs.Programs.{Demand, Answer, Program, done, refuse, ask, enter, look, ◌>>=◌, if◌then◌else◌, let_some}
+use Rattle.resolution.specs.Programs.{Demand, Answer, Program, done, refuse, ask, enter, look, ◌>>=◌, when◌then◌else◌, let_some}
 use Rattle.resolution.specs.Run.{Outcome, go_on, enter_type, run}
 use Rattle.model.specs.Links.{link}
 
@@ -102,15 +102,15 @@ module _ {Good : Demand → Type 0} where
   same_both (and x y r) h g = g x y r
 
   pub same_if : {A : Type 0} (b : Bool) {p p' q q' : Program A} → Same Good p p' → Same Good q q'
-      → Same Good (if b then p else q) (if b then p' else q')
-  unfolding if◌then◌else◌
+      → Same Good (when b then p else q) (when b then p' else q')
+  unfolding when◌then◌else◌
   same_if true h g = h
   same_if false h g = g
 
   -- two tests that are equal
   pub same_ifs : {A : Type 0} (b b' : Bool) {p p' q q' : Program A} → b ≡ b' → Same Good p p' → Same Good q q'
-      → Same Good (if b then p else q) (if b' then p' else q')
-  same_ifs b b' {p} {p'} {q} {q'} e h g = subst (λ r. Same Good (if b then p else q) (if r then p' else q')) e (same_if b h g)
+      → Same Good (when b then p else q) (when b' then p' else q')
+  same_ifs b b' {p} {p'} {q} {q'} e h g = subst (λ r. Same Good (when b then p else q) (when r then p' else q')) e (same_if b h g)
 
   -- the same tree, run by two handlers that agree on good demands, gives the same
   pub run_same : {A : Type 0} {p p' : Program A} (h h' : (d : Demand) → Table → Outcome (Answer d))

@@ -7,7 +7,7 @@ use mathlib.Core.Option.{Option, none, some}
 use lib.Dec.{lit≤}
 use Rattle.resolution.specs.TypeData.{TypeData}
 use Rattle.resolution.specs.Types.{Table}
-use Rattle.resolution.specs.Programs.{Demand, Answer, Program, done, refuse, ask, enter, look, ◌>>=◌, if◌then◌else◌, let_some}
+use Rattle.resolution.specs.Programs.{Demand, Answer, Program, done, refuse, ask, enter, look, ◌>>=◌, when◌then◌else◌, let_some}
 use Rattle.resolution.specs.Run.{Outcome, answered, refused, go_on, enter_type, run}
 use Rattle.resolution.specs.TableOk.{row_types, TableOk, Extends, Below, DemandOk, AnswerOk, OutcomeOk}
 use Rattle.resolution.proofs.Tables.{extends_refl, extends_trans, base_below, enter_ok}
@@ -79,8 +79,8 @@ module _ {A B : Type 0} {Good : Table → B → Type 0} {table : Table} where
   safe_let_some (some x) h g = g x refl
 
 pub safe_if : {A : Type 0} {Good : Table → A → Type 0} {table : Table} (b : Bool) {p q : Program A} → Safe Good table p → Safe Good table q
-    → Safe Good table (if b then p else q)
-unfolding if◌then◌else◌
+    → Safe Good table (when b then p else q)
+unfolding when◌then◌else◌
 safe_if true h g = h
 safe_if false h g = g
 

@@ -13,7 +13,7 @@ use Rattle.resolution.specs.TypeData.{TypeData}
 use Rattle.model.specs.Limits.{max_open_demands}
 use Rattle.resolution.specs.Types.{Table, first_table, felt, bool, u32, unknown, error, unit}
 use Rattle.resolution.specs.Asked.{Asked}
-use Rattle.resolution.specs.Programs.{Demand, Answer, Program, done, enter, look, if◌then◌else◌, ◌>>=◌}
+use Rattle.resolution.specs.Programs.{Demand, Answer, Program, done, enter, look, when◌then◌else◌, ◌>>=◌}
 use Rattle.resolution.specs.Views.{typed_fields, right_first, numeric_context, element_contexts, element_hint}
 use Rattle.resolution.specs.TypeResolution.{
   resolve_all,
@@ -116,7 +116,7 @@ all_same_type_safe ok m element_type h (some element ∷ elements) =
     safe_bind ok (safe_asked (Demand.expression m element (some element_type)) h) λ after ok₁ x t good.
     let below = extends_below x element_type h in
     safe_look
-    (λ last y i. if compatible_later ok₁ y t element_type good below i then all_same_type m element_type elements else done false)
+    (λ last y i. when compatible_later ok₁ y t element_type good below i then all_same_type m element_type elements else done false)
     (safe_if _ (all_same_type_safe ok₁ m element_type below elements) (safe_done tt))
 
 -- ------------------------------------------------------------------ resolve_ast_type
@@ -427,7 +427,7 @@ module _ {table : Table} (ok : TableOk table) (m : ℕ) (the_module : Module) (i
       safe_look
       (λ after x i. do
         element_types ← infer_elements m (contexts_later ok x context (length elements) h i) 0 elements
-        if eqb (length element_types) (length elements) then enter (TypeData.Tuple element_types) done else done error)
+        when eqb (length element_types) (length elements) then enter (TypeData.Tuple element_types) done else done error)
       (safe_bind ok (infer_elements_safe ok m (element_contexts table context (length elements)) (contexts_below ok context (length elements)) 0 elements) λ after ok₁ x element_types good.
       safe_if _ (safe_entered (TypeData.Tuple element_types) good) (safe_error ok₁))
 

@@ -59,11 +59,11 @@ look k >>= f = look (λ table. k table >>= f)
 abbrev pub ◌>>◌ : {A B : Type 0} → Program A → Program B → Program B
 p >> q = p >>= (λ a. q)
 
--- Choices between programs, as `if◌then◌else◌` and `let_some` of Common. They stay shut: the laws of a run are stated over them
-infix 5 if◌then◌else◌
-unfoldable pub if◌then◌else◌ : {A : Type 0} → Bool → Program A → Program A → Program A
-if true then p else q = p
-if false then p else q = q
+-- Choices between programs, as `when◌then◌else◌` and `let_some` of Common. They stay shut: the laws of a run are stated over them
+infix 5 when◌then◌else◌
+unfoldable pub when◌then◌else◌ : {A : Type 0} → Bool → Program A → Program A → Program A
+when true then p else q = p
+when false then p else q = q
 
 unfoldable pub let_some : {A B : Type 0} → Option A → Program B → (A → Program B) → Program B
 let_some none p f = p

@@ -25,7 +25,7 @@ use Rattle.resolution.specs.Types.{as_tuple, as_pointer, as_array, as_struct, as
 use Rattle.resolution.specs.Compatible.{are_types_compatible, unary_op_signatures, binary_op_signatures, unary_result, binary_result}
 use Rattle.resolution.specs.Views.{is_unsuffixed_literal, as_identifier, as_struct_literal, struct_field, typed_fields, names_array_expr, right_first, callee_is_builtin, navigate, numeric, numeric_context, element_contexts, element_hint, suffix_type}
 use Rattle.resolution.specs.Asked.{Asked}
-use Rattle.resolution.specs.Programs.{Demand, Answer, Said, Program, done, look, if◌then◌else◌, let_some, missing_child, type_id_new, type_data, resolve_ast_type, definition_semantic_type, expression_semantic_type, struct_semantic_data, function_semantic_signature, ◌>>=◌, ◌>>◌}
+use Rattle.resolution.specs.Programs.{Demand, Answer, Said, Program, done, look, when◌then◌else◌, let_some, missing_child, type_id_new, type_data, resolve_ast_type, definition_semantic_type, expression_semantic_type, struct_semantic_data, function_semantic_signature, ◌>>=◌, ◌>>◌}
 
 -- ------------------------------------------------------------------ lists of demands
 
@@ -67,7 +67,7 @@ all_same_type m element_type (none ∷ elements) = done false
 all_same_type m element_type (some element ∷ elements) = do
   t ← expression_semantic_type m element (some element_type)
   look λ table.
-      if are_types_compatible table t element_type then all_same_type m element_type elements else done false
+      when are_types_compatible table t element_type then all_same_type m element_type elements else done false
 
 -- ------------------------------------------------------------------ resolve_ast_type
 
@@ -85,7 +85,7 @@ module _ (m : ℕ) (the_module : Module) (s : ℕ) where
   -- "An array directly of arrays is error"
   unfoldable pub array_type : ℕ → ℕ → Program ℕ
   array_type t size =
-      if names_array_expr the_module t
+      when names_array_expr the_module t
       then done error
       else do
         element ← resolve_ast_type m t s
@@ -215,7 +215,7 @@ signature_return_type (some t) = do
 -- "`assign` helps only an unsuffixed literal"
 unfoldable pub assignment_context : ℕ → Expression → ℕ → Program (Option ℕ)
 assignment_context m node lhs =
-    if is_unsuffixed_literal node
+    when is_unsuffixed_literal node
     then
     (do
       t ← expression_semantic_type m lhs none
@@ -290,7 +290,7 @@ parenthesized_type m context inner = let_some inner (done error) λ inner_id. ex
 -- a built-in name; else the recorded definition; else the name at this position
 unfoldable pub identifier_type : ℕ → Module → ExpressionInfo → Name → Program ℕ
 identifier_type m the_module expr_info name =
-    if is_builtin_function_name name
+    when is_builtin_function_name name
     then done unit
     else
     let_some
@@ -317,7 +317,7 @@ unfoldable pub binary_type : ℕ → Module → Option ℕ → BinaryOp → Opti
 binary_type m the_module context op left right =
     let_some left missing_child λ left_id.
     let_some right missing_child λ right_id.
-    if right_first the_module op left_id right_id
+    when right_first the_module op left_id right_id
     then
     (do
       right_type ← expression_semantic_type m right_id context
@@ -337,7 +337,7 @@ member_type m object field =
 
 unfoldable pub call_type : ℕ → Module → Option ℕ → List (Option ℕ) → Program ℕ
 call_type m the_module callee args =
-    if callee_is_builtin the_module callee
+    when callee_is_builtin the_module callee
     then done unit
     else
     let_some callee (done error) λ callee_id. do
@@ -365,7 +365,7 @@ index_type m array index =
 unfoldable pub tuple_type : ℕ → Option ℕ → List (Option ℕ) → Program ℕ
 tuple_type m context elements = look λ table. do
   element_types ← infer_elements m (element_contexts table context (length elements)) 0 elements
-  if eqb (length element_types) (length elements) then type_id_new (TypeData.Tuple element_types) else done error
+  when eqb (length element_types) (length elements) then type_id_new (TypeData.Tuple element_types) else done error
 
 unfoldable pub tuple_index_type : ℕ → Option ℕ → ℕ → Program ℕ
 tuple_index_type m tuple index =
@@ -381,7 +381,7 @@ empty_array_type m expr_info =
       resolved_type ← resolve_ast_type m expected_type_ast expr_info.scope
       row ← type_data resolved_type
       let_some (as_array row) (done error) λ array.
-          if eqb array.size 0 then type_id_new (TypeData.FixedArray array.element 0) else done error
+          when eqb array.size 0 then type_id_new (TypeData.FixedArray array.element 0) else done error
 
 unfoldable pub array_literal_type : ℕ → ExpressionInfo → Option ℕ → List (Option ℕ) → Program ℕ
 array_literal_type m expr_info hint [] =
@@ -390,7 +390,7 @@ array_literal_type m expr_info hint (first_elem ∷ elements) =
     let_some first_elem missing_child λ first_elem_id. do
       inferred ← expression_semantic_type m first_elem_id hint
       same ← all_same_type m inferred elements
-      if same then type_id_new (TypeData.FixedArray inferred (suc (length elements))) else done error
+      when same then type_id_new (TypeData.FixedArray inferred (suc (length elements))) else done error
 
 unfoldable pub array_repeat_type : ℕ → Option ℕ → Option ℕ → ℕ → Program ℕ
 array_repeat_type m hint element count =

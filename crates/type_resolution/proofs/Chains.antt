@@ -13,7 +13,7 @@ use Rattle.records.specs.Layout.{each, item_value, numbers_at, names_with_types_
 use Rattle.resolution.specs.TypeData.{TypeData}
 use Rattle.resolution.specs.Types.{error, unit}
 use Rattle.resolution.specs.Views.{as_identifier, as_struct_literal, struct_field, typed_fields, numeric, numeric_context, element_hint, element_contexts, suffix_type}
-use Rattle.resolution.specs.Programs.{Program, done, look, if◌then◌else◌, let_some, missing_child, type_id_new, resolve_ast_type, definition_semantic_type, expression_semantic_type, function_semantic_signature, ◌>>=◌}
+use Rattle.resolution.specs.Programs.{Program, done, look, when◌then◌else◌, let_some, missing_child, type_id_new, resolve_ast_type, definition_semantic_type, expression_semantic_type, function_semantic_signature, ◌>>=◌}
 use Rattle.resolution.specs.TypeResolution.{resolve_all, infer_elements, all_same_type, use_type, argument_context, field_context, signature_param, identifier_type, literal_type, expected_numeric, array_literal_type, empty_array_type}
 use Rattle.views.specs.Reads.{ScopedType, Imported, argument_definition, field_type_expr, imported_definition, identifier_definition}
 use Rattle.type_table.specs.Layout.{table_of, types_of}
@@ -114,11 +114,11 @@ recorded m none named = refl
 recorded m (some d) named = refl
 
 pub identifier_shaped : (m : ℕ) (the_module : Module) (info : ExpressionInfo) (name : Name) → identifier_type m the_module info name
-    ≡ if is_builtin_function_name name then done unit
+    ≡ when is_builtin_function_name name then done unit
     else let_some (identifier_definition the_module info.definition name info.scope info.start info.end) (done error) (λ d. definition_semantic_type m d)
 unfolding identifier_type identifier_definition
 identifier_shaped m the_module info name i =
-    if is_builtin_function_name name then done unit
+    when is_builtin_function_name name then done unit
     else recorded m info.definition (resolve_name_at_position the_module name info.scope info.start info.end) i
 
 -- ------------------------------------------------------------------ numbers
@@ -155,14 +155,14 @@ array_shaped m info context es i = look (λ table. array_info m info (element_hi
 
 full_array : (words : List ℕ) (m : ℕ) (info : ExpressionInfo) (hint : Option ℕ) (first count : ℕ) → 1 ≤ count → array_literal_type m info hint (links_at words first count)
     ≡ let_some (link_by (item_value words (first + 0))) missing_child
-    (λ e. expression_semantic_type m e hint >>= (λ t. all_same_type m t (drop 1 (links_at words first count)) >>= (λ same. if same then type_id_new (TypeData.FixedArray t count) else done error)))
+    (λ e. expression_semantic_type m e hint >>= (λ t. all_same_type m t (drop 1 (links_at words first count)) >>= (λ same. when same then type_id_new (TypeData.FixedArray t count) else done error)))
 unfolding array_literal_type links_at each
 full_array words m info hint first zero le = absurd (omega arith)
 full_array words m info hint first (suc count) le =
     let here : first ≡ first + 0 = omega arith in
     let behind : List (Option ℕ) = each (λ i. link_by (item_value words i)) (suc first) count in
     (λ j. let_some (link_by (item_value words (here j))) missing_child
-    (λ e. expression_semantic_type m e hint >>= (λ t. all_same_type m t behind >>= (λ same. if same then type_id_new (TypeData.FixedArray t (suc (each_length (λ i. link_by (item_value words i)) (suc first) count j))) else done error))))
+    (λ e. expression_semantic_type m e hint >>= (λ t. all_same_type m t behind >>= (λ same. when same then type_id_new (TypeData.FixedArray t (suc (each_length (λ i. link_by (item_value words i)) (suc first) count j))) else done error))))
 
 module _ {file words : List ℕ} {depth : ℕ} {T : List ℕ} {O : List (List ℕ)} {T' : List ℕ} {O' : List (List ℕ)} {r : Resolved} (m s : ℕ) (expected context : Option ℕ) (hint : FoundType)
     (is : Reads file T (element_hint_read context) (found_type_of hint)) where
@@ -178,7 +178,7 @@ module _ {file words : List ℕ} {depth : ℕ} {T : List ℕ} {O : List (List �
   pub some_elements : (first count : ℕ) → 1 ≤ count
       → Runs typed file words
       (let_some (link_by (item_value words (first + 0))) missing_child
-      (λ e. expression_semantic_type m e (found_type_of hint) >>= (λ t. all_same_type m t (drop 1 (links_at words first count)) >>= (λ same. if same then type_id_new (TypeData.FixedArray t count) else done error)))) depth T O T' O' r
+      (λ e. expression_semantic_type m e (found_type_of hint) >>= (λ t. all_same_type m t (drop 1 (links_at words first count)) >>= (λ same. when same then type_id_new (TypeData.FixedArray t count) else done error)))) depth T O T' O' r
       → Runs typed file words (array_literal_in m s expected context (links_at words first count)) depth T O T' O' r
   unfolding array_literal_in array_literal_type element_hint_read
   some_elements first count le a =

@@ -14,7 +14,7 @@ use Rattle.records.specs.declared.ExpressionLink.{ExpressionLink}
 use Rattle.records.specs.declared.ExpressionId.{ExpressionId}
 use Rattle.resolution.specs.Types.{Table}
 use Rattle.resolution.specs.Compatible.{are_types_compatible}
-use Rattle.resolution.specs.Programs.{Demand, Program, done, ask, look, ◌>>=◌, if◌then◌else◌, expression_semantic_type}
+use Rattle.resolution.specs.Programs.{Demand, Program, done, ask, look, ◌>>=◌, when◌then◌else◌, expression_semantic_type}
 use Rattle.resolution.specs.TypeResolution.{resolve_all, infer_only, infer_arguments, infer_elements, all_same_type}
 use Rattle.resolution.specs.Run.{Outcome, go_on, run, demand}
 use Rattle.resolution.proofs.RunLaws.{run_bind}
@@ -190,7 +190,7 @@ unfolding all_same_type
 same_missing m t es = refl
 
 pub same_step : (m t e : ℕ) (es : List (Option ℕ)) → all_same_type m t (some e ∷ es)
-    ≡ expression_semantic_type m e (some t) >>= (λ x. look (λ table. if are_types_compatible table x t then all_same_type m t es else done false))
+    ≡ expression_semantic_type m e (some t) >>= (λ x. look (λ table. when are_types_compatible table x t then all_same_type m t es else done false))
 unfolding all_same_type
 same_step m t e es = refl
 
@@ -303,7 +303,7 @@ module _ {file words : List ℕ} {depth : ℕ} {p : Program Bool} {T₀ : List �
 
   same_next : (link : ExpressionLink) (x : ExpressionId) → i < count → expression_link_of link ≡ link_by (item_value words (first + i)) → link ≡ ExpressionLink.To x
       → Leads file words depth p T₀ O₀
-      (expression_semantic_type m x.0 (some t) >>= (λ u. look (λ table. if are_types_compatible table u t then all_same_type m t (links_left words first count (i + 1)) else done false))) T O
+      (expression_semantic_type m x.0 (some t) >>= (λ u. look (λ table. when are_types_compatible table u t then all_same_type m t (links_left words first count (i + 1)) else done false))) T O
   same_next link x lt e h =
       leads_as l _
       (ap (all_same_type m t) (links_step words first count i lt ∙ ap (λ o. o ∷ links_left words first count (i + 1)) (sym e ∙ ap expression_link_of h))
@@ -313,16 +313,16 @@ module _ {file words : List ℕ} {depth : ℕ} {p : Program Bool} {T₀ : List �
       (e : expression_link_of link ≡ link_by (item_value words (first + i))) (h : link ≡ ExpressionLink.To x)
       (a : Runs typed file words (expression_semantic_type m x.0 (some t)) depth T O T' O' r) where
     same_answered : {u : ℕ} (b : Bool) → r ≡ Resolved.Answered u → are_types_compatible (table_of file T') u t ≡ b
-        → Leads file words depth p T₀ O₀ (if b then all_same_type m t (links_left words first count (i + 1)) else done false) T' O'
+        → Leads file words depth p T₀ O₀ (when b then all_same_type m t (links_left words first count (i + 1)) else done false) T' O'
     same_answered {u} b k fits =
-        leads_as (leads_look _ (leads_on _ (same_next link x lt e h) a (is_typed k))) _ (ap (λ y. if y then all_same_type m t (links_left words first count (i + 1)) else done false) fits)
+        leads_as (leads_look _ (leads_on _ (same_next link x lt e h) a (is_typed k))) _ (ap (λ y. when y then all_same_type m t (links_left words first count (i + 1)) else done false) fits)
 
     pub same_more : {u : ℕ} → r ≡ Resolved.Answered u → are_types_compatible (table_of file T') u t ≡ true → Leads file words depth p T₀ O₀ (all_same_type m t (links_left words first count (i + 1))) T' O'
-    unfolding if◌then◌else◌
+    unfolding when◌then◌else◌
     same_more k fits = same_answered true k fits
 
     pub same_differs : {u : ℕ} → r ≡ Resolved.Answered u → are_types_compatible (table_of file T') u t ≡ false → Runs compared file words p depth T₀ O₀ T' O' Compared.Different
-    unfolding if◌then◌else◌
+    unfolding when◌then◌else◌
     same_differs k fits = leads_runs (same_answered false k fits) (ends a.ready (is_different refl))
 
     pub same_stops : {n : ℕ} → r ≡ Resolved.Refused n → Runs compared file words p depth T₀ O₀ T' O' (Compared.Refused n)

@@ -9,7 +9,7 @@ use lib.ListN.{take}
 use Rattle.records.specs.Layout.{index_of}
 use Rattle.resolution.specs.TypeData.{TypeData}
 use Rattle.resolution.specs.Types.{Table, data_of}
-use Rattle.resolution.specs.Programs.{Demand, Answer, Program, done, refuse, ask, look, ◌>>=◌, let_some, if◌then◌else◌, type_data}
+use Rattle.resolution.specs.Programs.{Demand, Answer, Program, done, refuse, ask, look, ◌>>=◌, let_some, when◌then◌else◌, type_data}
 use Rattle.resolution.specs.TypeResolution.{program}
 use Rattle.resolution.specs.Run.{Outcome, answered, refused, go_on, run, demand}
 use Rattle.resolution.proofs.RunLaws.{run_bind}
@@ -152,13 +152,13 @@ module _ {A B R S : Type 0} {means : R → Table → Outcome A} {meaning : S →
 -- ------------------------------------------------------------------ choices
 
 module _ {A R : Type 0} {meaning : R → Table → Outcome A} {file words : List ℕ} {depth : ℕ} {T : List ℕ} {O : List (List ℕ)} {T' : List ℕ} {O' : List (List ℕ)} {r : R} where
-  pub if_true : (b : Bool) (p q : Program A) {x : Bool} → x ≡ b → x ≡ true → Runs meaning file words p depth T O T' O' r → Runs meaning file words (if b then p else q) depth T O T' O' r
-  unfolding if◌then◌else◌
-  if_true b p q h e a = subst (λ y. Runs meaning file words (if y then p else q) depth T O T' O' r) (sym e ∙ h) a
+  pub if_true : (b : Bool) (p q : Program A) {x : Bool} → x ≡ b → x ≡ true → Runs meaning file words p depth T O T' O' r → Runs meaning file words (when b then p else q) depth T O T' O' r
+  unfolding when◌then◌else◌
+  if_true b p q h e a = subst (λ y. Runs meaning file words (when y then p else q) depth T O T' O' r) (sym e ∙ h) a
 
-  pub if_false : (b : Bool) (p q : Program A) {x : Bool} → x ≡ b → x ≡ false → Runs meaning file words q depth T O T' O' r → Runs meaning file words (if b then p else q) depth T O T' O' r
-  unfolding if◌then◌else◌
-  if_false b p q h e a = subst (λ y. Runs meaning file words (if y then p else q) depth T O T' O' r) (sym e ∙ h) a
+  pub if_false : (b : Bool) (p q : Program A) {x : Bool} → x ≡ b → x ≡ false → Runs meaning file words q depth T O T' O' r → Runs meaning file words (when b then p else q) depth T O T' O' r
+  unfolding when◌then◌else◌
+  if_false b p q h e a = subst (λ y. Runs meaning file words (when y then p else q) depth T O T' O' r) (sym e ∙ h) a
 
   pub some_runs : {X : Type 0} (o : Option X) (p : Program A) (f : X → Program A) {x : X} → o ≡ some x → Runs meaning file words (f x) depth T O T' O' r → Runs meaning file words (let_some o p f) depth T O T' O' r
   unfolding let_some
