@@ -7,7 +7,8 @@ use native.Mathlib.Omega.{arith}
 use borrow.Author.Tests.{le-leb, lt-leb}
 use lib.ListN.{length, take, drop, get_elem?, replicate, length-append, length-drop, take-append-drop}
 use lib.Seq.{take_at, drop_at, drop-append-le, take_all, length-take-le}
-use Rattle.model.specs.Common.{Text, when◌then◌else◌, let_some}
+use Rattle.std.specs.Prelude.{if◌then◌else◌}
+use Rattle.model.specs.Common.{Text, let_some}
 use Rattle.model.specs.Records.{Question, Index}
 use Rattle.model.specs.Limits.{record_words, type_words, max_open_demands, answer_bytes}
 use Rattle.model.specs.Refusals.{refusal_link}
@@ -176,7 +177,7 @@ module _ (file : Text) (from start : ℕ) (types : List ℕ) (demands : List (Li
   past index words loaded over zero =
       let lines : lines_from file from start ≡ Lines.file_refused refusal_link 0 =
       ap (λ l. lines_in l from start) loaded
-      ∙ ap (λ b. when b then fill [] (pieces_at index from start) else Lines.file_refused refusal_link 0) (lt-leb from (length index.questions) over) in
+      ∙ ap (λ b. if b then fill [] (pieces_at index from start) else Lines.file_refused refusal_link 0) (lt-leb from (length index.questions) over) in
       record {
         is = sym (ap answers_of lines);
         out_is = sym (ap (λ l. lines_out l out) lines);
@@ -189,7 +190,7 @@ module _ (file : Text) (from start : ℕ) (types : List ℕ) (demands : List (Li
     unfolding lines_from lines_in
     lines_as =
         ap (λ l. lines_in l from start) loaded
-        ∙ ap (λ b. when b then fill [] (pieces_at (index_of file words) from start) else Lines.file_refused refusal_link 0)
+        ∙ ap (λ b. if b then fill [] (pieces_at (index_of file words) from start) else Lines.file_refused refusal_link 0)
         (le-leb from (length (index_of file words).questions) below)
 
     lines_leave : (r : LinesAnswer) → LinesLeave file (index_of file words) types demands types' demands' r → LeavesFrom file types demands words types' demands' r

@@ -9,7 +9,8 @@ use borrow.Author.Tests.{le-leb, lt-leb}
 use borrow.Rule.Slice.PartMut.{mid_of, post_of, put_mid, put_same}
 use lib.ListN.{length, take, drop, get_elem?, length-append, length-drop, drop_of_length-le}
 use lib.Seq.{take_at, drop_at, drop-drop, take_all}
-use Rattle.model.specs.Common.{Text, when◌then◌else◌}
+use Rattle.std.specs.Prelude.{if◌then◌else◌}
+use Rattle.model.specs.Common.{Text}
 use Rattle.model.specs.Records.{Question, Index}
 use Rattle.model.specs.Limits.{answer_bytes}
 use Rattle.model.proofs.Tests.{none≢some, some-injective}
@@ -68,14 +69,14 @@ module _ (text : Text) (piece : Piece) (pieces : List Piece) where
   pub fill_on : length (text ++ piece.text) ≤ answer_bytes → fill text (piece ∷ pieces) ≡ fill (text ++ piece.text) pieces
   unfolding fill
   fill_on fits =
-      ap (λ b. when b then fill (text ++ piece.text) pieces else Lines.more piece.question piece.line text)
+      ap (λ b. if b then fill (text ++ piece.text) pieces else Lines.more piece.question piece.line text)
       (le-leb (length (text ++ piece.text)) answer_bytes fits)
 
   -- one that does not
   pub fill_stop : answer_bytes < length (text ++ piece.text) → fill text (piece ∷ pieces) ≡ Lines.more piece.question piece.line text
   unfolding fill
   fill_stop long =
-      ap (λ b. when b then fill (text ++ piece.text) pieces else Lines.more piece.question piece.line text)
+      ap (λ b. if b then fill (text ++ piece.text) pieces else Lines.more piece.question piece.line text)
       (lt-leb (length (text ++ piece.text)) answer_bytes long)
 
 -- ------------------------------------------------------------------ before each line

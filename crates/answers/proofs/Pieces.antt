@@ -8,7 +8,8 @@ use mathlib.Core.Option.{Option, none, some}
 use native.Mathlib.Omega.{arith}
 use lib.Dec.{leb}
 use lib.ListN.{length, drop, get_elem?}
-use Rattle.model.specs.Common.{Text, when◌then◌else◌, joined}
+use Rattle.std.specs.Prelude.{if◌then◌else◌}
+use Rattle.model.specs.Common.{Text, joined}
 use Rattle.model.specs.Records.{Question, Index}
 use Rattle.model.specs.Limits.{answer_bytes}
 use Rattle.model.proofs.Tests.{none≢some, some-injective}
@@ -132,7 +133,7 @@ module _ (index : Index) where
     where
       at : (b : Bool) → First piece pieces → pieces_at index from line ≡ piece ∷ pieces_at index piece.question (suc piece.line)
           → FillIs (text ++ piece.text) piece.question (suc piece.line) (fill (text ++ piece.text) pieces)
-          → FillIs text from line (when b then fill (text ++ piece.text) pieces else Lines.more piece.question piece.line text)
+          → FillIs text from line (if b then fill (text ++ piece.text) pieces else Lines.more piece.question piece.line text)
       at true first on inner = one_more text from line piece piece.question (suc piece.line) on (fill (text ++ piece.text) pieces) inner
       at false first on inner =
           record {

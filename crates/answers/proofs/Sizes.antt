@@ -9,7 +9,8 @@ use mathlib.Core.Option.{Option, none, some}
 use borrow.Author.Tests.{le-leb}
 use lib.Dec.{leb}
 use lib.ListN.{length, get_elem?}
-use Rattle.model.specs.Common.{Text, when◌then◌else◌, let_some}
+use Rattle.std.specs.Prelude.{if◌then◌else◌}
+use Rattle.model.specs.Common.{Text, let_some}
 use Rattle.model.specs.Records.{Question, Index}
 use Rattle.model.specs.Limits.{record_words, type_words, max_open_demands, answer_bytes}
 use Rattle.model.specs.Refusals.{refusal_link}
@@ -78,7 +79,7 @@ fill_fits [] text few = few
 fill_fits (piece ∷ pieces) text few = by_room (leb (length (text ++ piece.text)) answer_bytes) refl (fill_fits pieces (text ++ piece.text))
   where
     by_room : (b : Bool) → leb (length (text ++ piece.text)) answer_bytes ≡ b → (length (text ++ piece.text) ≤ answer_bytes → BytesFit (fill (text ++ piece.text) pieces))
-        → BytesFit (when b then fill (text ++ piece.text) pieces else Lines.more piece.question piece.line text)
+        → BytesFit (if b then fill (text ++ piece.text) pieces else Lines.more piece.question piece.line text)
     by_room true h on = on (leb_le (length (text ++ piece.text)) answer_bytes h)
     by_room false h on = few
 
@@ -101,7 +102,7 @@ lines_fit file from line = by_loading (load file) refl
         absurd (subst (FillIs index [] from line) is (fill_is index (pieces_at index from line) [] from line refl))
 
     by_count : (index : Index) → load file ≡ accepted index → (b : Bool)
-        → AnswersFit (answers_of (when b then fill [] (pieces_at index from line) else Lines.file_refused refusal_link 0))
+        → AnswersFit (answers_of (if b then fill [] (pieces_at index from line) else Lines.file_refused refusal_link 0))
     by_count index loaded true = by_lines index loaded (fill [] (pieces_at index from line)) refl
     by_count index loaded false = omega arith
 

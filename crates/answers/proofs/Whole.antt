@@ -8,7 +8,8 @@ use native.Mathlib.Omega.{arith}
 use borrow.Author.Tests.{le-leb, leb-true}
 use lib.Dec.{leb}
 use lib.ListN.{length, get_elem?, length-append}
-use Rattle.model.specs.Common.{Text, when◌then◌else◌, let_some}
+use Rattle.std.specs.Prelude.{if◌then◌else◌}
+use Rattle.model.specs.Common.{Text, let_some}
 use Rattle.model.specs.Records.{Index}
 use Rattle.model.specs.Limits.{answer_bytes}
 use Rattle.model.specs.Refusals.{refusal_link}
@@ -49,7 +50,7 @@ module _ (file : Text) (index : Index) (loaded : load file ≡ accepted index) (
   unfolding lines_from lines_in
   lines_as =
       ap (λ l. lines_in l from line) loaded
-      ∙ ap (λ b. when b then fill [] (pieces_at index from line) else Lines.file_refused refusal_link 0) (le-leb from (length index.questions) below)
+      ∙ ap (λ b. if b then fill [] (pieces_at index from line) else Lines.file_refused refusal_link 0) (le-leb from (length index.questions) below)
 
   lines_is : (lines : Lines) → lines_from file from line ≡ lines → FillIs index [] from line lines
   lines_is lines e = subst (FillIs index [] from line) (sym lines_as ∙ e) (fill_is index (pieces_at index from line) [] from line refl)
@@ -160,7 +161,7 @@ always_later file from line next next_line text e = at (load file) refl
         within false h =
             let p : lines_in (load file) from line ≡ Lines.file_refused refusal_link 0 =
             ap (λ l. lines_in l from line) loaded
-            ∙ ap (λ b. when b then fill [] (pieces_at index from line) else Lines.file_refused refusal_link 0) h in
+            ∙ ap (λ b. if b then fill [] (pieces_at index from line) else Lines.file_refused refusal_link 0) h in
             let q = sym e ∙ p in
             let z : ◌≡◌ {A = ℕ} 0 1 = cc in absurd (omega arith)
     at (Loading.refused refusal at_line) is_refused =

@@ -1,7 +1,8 @@
 -- What the answers of this crate stand for: document 01's number and values for each of their cases, and the answer bytes with them.
 -- Definitions only; assumes nothing.
 use Rattle.std.specs.Prelude.{ℕ, suc, List, [], ◌∷◌, ◌++◌, leb, length, drop}
-use Rattle.model.specs.Common.{Text, when◌then◌else◌}
+use Rattle.std.specs.Prelude.{if◌then◌else◌}
+use Rattle.model.specs.Common.{Text}
 use Rattle.model.specs.Records.{Question, Index}
 use Rattle.model.specs.Limits.{answer_bytes}
 use Rattle.model.specs.Refusals.{refusal_link}
@@ -66,14 +67,14 @@ pub data Lines : Type 0 where
 unfoldable pub fill : Text → List Piece → Lines
 fill text [] = Lines.end text
 fill text (piece ∷ pieces) =
-    when leb (length (text ++ piece.text)) answer_bytes
+    if leb (length (text ++ piece.text)) answer_bytes
     then fill (text ++ piece.text) pieces
     else Lines.more piece.question piece.line text
 
 -- from a question's line on; a number past that of questions is "a question number the file lacks (5, line 0)"
 unfoldable pub lines_in : Loading → ℕ → ℕ → Lines
 lines_in (Loading.accepted index) from line =
-    when leb from (length index.questions) then fill [] (pieces_at index from line) else Lines.file_refused refusal_link 0
+    if leb from (length index.questions) then fill [] (pieces_at index from line) else Lines.file_refused refusal_link 0
 lines_in (Loading.refused number at_line) from line = Lines.file_refused number at_line
 
 unfoldable pub lines_from : Text → ℕ → ℕ → Lines

@@ -9,7 +9,7 @@ use borrow.Author.Tests.{not-true, not-false}
 use lib.Dec.{eqb}
 use lib.ListN.{length, get_or, drop, drop_of_length-le}
 use lib.Seq.{drop-cons}
-use Rattle.model.specs.Common.{when◌then◌else◌}
+use Rattle.std.specs.Prelude.{if◌then◌else◌}
 use Rattle.model.specs.Records.{UnaryOp, BinaryOp}
 use Rattle.resolution.specs.Types.{Table, error}
 use Rattle.resolution.specs.Compatible.{
@@ -46,24 +46,24 @@ module _
     (result : R → ℕ)
     (last : ℕ)
     (past : R)
-    (at_row : (row : R) (rows : List R) → f (row ∷ rows) ≡ (when fits row then result row else f rows))
+    (at_row : (row : R) (rows : List R) → f (row ∷ rows) ≡ (if fits row then result row else f rows))
     (at_end : f [] ≡ last)
     (rows : List R)
     (i : ℕ)
     (begun : f rows ≡ f (drop i rows))
   where
-    from_here : i < length rows → (b : Bool) → b ≡ fits (get_or rows i past) → f rows ≡ (when b then result (get_or rows i past) else f (drop (suc i) rows))
+    from_here : i < length rows → (b : Bool) → b ≡ fits (get_or rows i past) → f rows ≡ (if b then result (get_or rows i past) else f (drop (suc i) rows))
     from_here below b tested =
         begun ∙ ap f (drop-cons rows i past below) ∙ at_row (get_or rows i past) (drop (suc i) rows)
-        ∙ ap (λ x. when x then result (get_or rows i past) else f (drop (suc i) rows)) (sym tested)
+        ∙ ap (λ x. if x then result (get_or rows i past) else f (drop (suc i) rows)) (sym tested)
 
     scan_here : i < length rows → (b : Bool) → b ≡ fits (get_or rows i past) → b ≡ true → result (get_or rows i past) ≡ f rows
     scan_here below b tested e =
-        sym (from_here below b tested ∙ ap (λ x. when x then result (get_or rows i past) else f (drop (suc i) rows)) e)
+        sym (from_here below b tested ∙ ap (λ x. if x then result (get_or rows i past) else f (drop (suc i) rows)) e)
 
     scan_there : i < length rows → (b : Bool) → b ≡ fits (get_or rows i past) → b ≡ false → f rows ≡ f (drop (i + 1) rows)
     scan_there below b tested e =
-        from_here below b tested ∙ ap (λ x. when x then result (get_or rows i past) else f (drop (suc i) rows)) e
+        from_here below b tested ∙ ap (λ x. if x then result (get_or rows i past) else f (drop (suc i) rows)) e
         ∙ sym (ap (λ n. f (drop n rows)) (add-one i))
 
     scan_end : length rows ≤ i → last ≡ f rows
@@ -82,7 +82,7 @@ module _ (table : Table) (op : UnaryOp) (operand : ℕ) where
   abbrev unary_test : UnaryOpSignature → Bool
   unary_test row = eqb (unary_number row.op) (unary_number op) && are_types_compatible table operand row.operand
 
-  unary_step : (row : UnaryOpSignature) (rows : List UnaryOpSignature) → unary_scan (row ∷ rows) ≡ (when unary_test row then row.result else unary_scan rows)
+  unary_step : (row : UnaryOpSignature) (rows : List UnaryOpSignature) → unary_scan (row ∷ rows) ≡ (if unary_test row then row.result else unary_scan rows)
   unfolding unary_result
   unary_step row rows = refl
 
@@ -131,7 +131,7 @@ module _ (table : Table) (op : BinaryOp) (left right : ℕ) where
       eqb (binary_number row.op) (binary_number op)
       && (are_types_compatible table left row.left && are_types_compatible table right row.right)
 
-  binary_step : (row : OperatorSignature) (rows : List OperatorSignature) → binary_scan (row ∷ rows) ≡ (when binary_test row then row.result else binary_scan rows)
+  binary_step : (row : OperatorSignature) (rows : List OperatorSignature) → binary_scan (row ∷ rows) ≡ (if binary_test row then row.result else binary_scan rows)
   unfolding binary_result
   binary_step row rows = refl
 

@@ -5,7 +5,8 @@ use mathlib.Core.Bool.{Bool, true, false}
 use mathlib.Core.Option.{Option, none, some}
 use lib.Dec.{ltb}
 use lib.ListN.{length, take, drop}
-use Rattle.model.specs.Common.{is_empty, Text, let_some, when◌then◌else◌, first}
+use Rattle.std.specs.Prelude.{if◌then◌else◌}
+use Rattle.model.specs.Common.{is_empty, Text, let_some, first}
 use Rattle.model.specs.Records.{Scope, Index}
 use Rattle.model.specs.Lookups.{module_at, scope_at}
 use Rattle.model.specs.Links.{scope_in}
@@ -99,7 +100,7 @@ version_one : (file : Text) (version : ℕ) → version_of file ≡ some version
 unfolding version_of place_in first word_at
 version_one file version e = by_test (is_keyword (take first_line_length file) (keyword "index\t1\n" 1)) e
   where
-    by_test : (b : Bool) → let_some (when b then some 0 else none) none (λ n. some (word_at first_lines 0 n)) ≡ some version → version ≡ 1
+    by_test : (b : Bool) → let_some (if b then some 0 else none) none (λ n. some (word_at first_lines 0 n)) ≡ some version → version ≡ 1
     by_test true h = sym (some-injective h)
     by_test false h = absurd (none≢some h)
 

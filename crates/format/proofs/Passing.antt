@@ -5,7 +5,8 @@ use mathlib.Core.Bool.{Bool, true, false, not, ◌&&◌}
 use mathlib.Core.List.{[], ◌∷◌}
 use mathlib.Core.Option.{Option, none, some}
 use lib.Dec.{eqb, ltb}
-use Rattle.model.specs.Common.{Text, when◌then◌else◌}
+use Rattle.std.specs.Prelude.{if◌then◌else◌}
+use Rattle.model.specs.Common.{Text}
 use Rattle.model.specs.Records.{Index}
 use Rattle.model.specs.Limits.{max_items, item_count}
 use Rattle.model.proofs.Tests.{eqb_sound, ltb-false, not-true, and_right}
@@ -44,11 +45,11 @@ abbrev text_after : Step → Text
 text_after (refuse k) = []
 text_after (go s t) = t
 
-not_refused : (b : Bool) (k : ℕ) (x : Step) (s : Seen) (t : Text) → (when b then refuse k else x) ≡ go s t → (b ≡ false) × (x ≡ go s t)
+not_refused : (b : Bool) (k : ℕ) (x : Step) (s : Seen) (t : Text) → (if b then refuse k else x) ≡ go s t → (b ≡ false) × (x ≡ go s t)
 not_refused true k x s t e = absurd (refuse≢go e)
 not_refused false k x s t e = (refl, e)
 
-passed : (b : Bool) (k : ℕ) (x : Step) (s : Seen) (t : Text) → (when b then x else refuse k) ≡ go s t → (b ≡ true) × (x ≡ go s t)
+passed : (b : Bool) (k : ℕ) (x : Step) (s : Seen) (t : Text) → (if b then x else refuse k) ≡ go s t → (b ≡ true) × (x ≡ go s t)
 passed true k x s t e = (refl, e)
 passed false k x s t e = absurd (refuse≢go e)
 

@@ -7,7 +7,8 @@ use mathlib.Core.List.{[], ◌∷◌}
 use mathlib.Core.Option.{Option, none, some}
 use lib.Dec.{eqb, ltb}
 use lib.ListN.{length, drop}
-use Rattle.model.specs.Common.{Text, is_empty, when◌then◌else◌, let_some}
+use Rattle.std.specs.Prelude.{if◌then◌else◌}
+use Rattle.model.specs.Common.{Text, is_empty, let_some}
 use Rattle.model.specs.Limits.{max_bytes, max_items, item_count}
 use Rattle.model.specs.Refusals.{refusal_link}
 use Rattle.format.specs.declared.LineWord.{LineWord}
@@ -24,7 +25,7 @@ abbrev StepFew : Step → Type 0
 StepFew (refuse k) = k ≤ 5
 StepFew (go s t) = Unit {0}
 
-if_few : (b : Bool) (x y : Step) → StepFew x → StepFew y → StepFew (when b then x else y)
+if_few : (b : Bool) (x y : Step) → StepFew x → StepFew y → StepFew (if b then x else y)
 if_few true x y h k = h
 if_few false x y h k = k
 

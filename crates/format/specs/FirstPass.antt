@@ -2,7 +2,8 @@
 -- Assumes nothing.
 use Rattle.std.specs.Prelude.{ℕ, zero, suc, ◌+◌, List, [], ◌∷◌, ◌++◌, Bool, true, false, ◌&&◌, not, length, eqb, leb, ltb}
 use Rattle.std.proofs.Math.Option.{Option, none, some}
-use Rattle.model.specs.Common.{Text, is_empty, is_none, when◌then◌else◌}
+use Rattle.std.specs.Prelude.{if◌then◌else◌}
+use Rattle.model.specs.Common.{Text, is_empty, is_none}
 use Rattle.model.specs.Records.{Name, Scope, TypeExpr, Definition, ExpressionInfo, Module, Index}
 use Rattle.model.specs.Lookups.{module_by_name}
 use Rattle.model.specs.Limits.{
@@ -122,16 +123,16 @@ pub data Step : Type 0 where
 -- behind the LF that must stand here
 abbrev pub ended : Seen → Text → Step
 ended s [] = refuse refusal_form
-ended s (b ∷ t) = when eqb b 10 then go s t else refuse refusal_form
+ended s (b ∷ t) = if eqb b 10 then go s t else refuse refusal_form
 
 -- wrong form 4; too many items 3; wrong place or a module name again 4; no LF 4, in this order:
 -- "3 first; .. items only in lines of right form"
 abbrev pub judged : LineWord → Seen → Option Line → Step
 judged w s none = refuse refusal_form
 judged w s (some l) =
-    when ltb max_items (item_count s.index + entry_items l.entry)
+    if ltb max_items (item_count s.index + entry_items l.entry)
     then refuse refusal_limit
-    else when in_place w s.stage && not (is_again l.entry s.index)
+    else if in_place w s.stage && not (is_again l.entry s.index)
     then ended (record { stage = stage_of w; index = add l.entry s.index }) l.rest
     else refuse refusal_form
 

@@ -9,7 +9,8 @@ use mathlib.Core.Bool.{Bool, true, false}
 use lib.Dec.{lit<, leb}
 use lib.ListN.{length, take, drop, length-append, length-take, take-append-drop}
 use lib.Seq.{length-take-le, drop_at, drop-append-le, drop-drop}
-use Rattle.model.specs.Common.{Text, bytes, when◌then◌else◌}
+use Rattle.std.specs.Prelude.{if◌then◌else◌}
+use Rattle.model.specs.Common.{Text, bytes}
 use Rattle.resolution.specs.Answer.{decimal, Verdict, text_verdict, verdict_fields, asked_lead, Line, line_text}
 use Rattle.type_text.specs.Text.{put_at, Wrote}
 use Rattle.type_text.proofs.Decimals.{decimal_within}
@@ -84,7 +85,7 @@ pub line_longer : (lead text : Text) → length lead + 5 < length (line_with lea
 unfolding text_verdict verdict_fields
 line_longer lead text = at (leb (length text) 4096)
   where
-    at : (b : Bool) → length lead + 5 < length (line_with lead (when b then Verdict.typed text else Verdict.refused 10))
+    at : (b : Bool) → length lead + 5 < length (line_with lead (if b then Verdict.typed text else Verdict.refused 10))
     at true =
         omega (arith, length-append lead (bytes "type\t" ++ (text ++ bytes "\n")), length-append (bytes "type\t") (text ++ bytes "\n"), length-append text (bytes "\n"))
     at false =

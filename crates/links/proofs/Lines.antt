@@ -9,7 +9,8 @@ use mathlib.Core.List.{List, [], ◌∷◌, ◌++◌, map}
 use mathlib.Core.Option.{Option, none, some}
 use lib.ListN.{length, get_elem?}
 use borrow.Author.Tests.{not-true, not-false}
-use Rattle.model.specs.Common.{when◌then◌else◌, next, first}
+use Rattle.std.specs.Prelude.{if◌then◌else◌}
+use Rattle.model.specs.Common.{next, first}
 use Rattle.model.proofs.Places.{getElem_below}
 use Rattle.model.proofs.Search.{passes_some, first_passes}
 use Rattle.format.specs.LinkCheck.{map_from}
@@ -52,11 +53,11 @@ module _ (n : ℕ) where
   module _ (b : Bool) (bs : List Bool) where
     pub fault_here : b ≡ false → fault_in n (b ∷ bs) ≡ some n
     unfolding fault_in shifted first
-    fault_here e = ap (λ b. shifted n (when not b then some zero else next (first not bs))) e ∙ ap some (add-zero n)
+    fault_here e = ap (λ b. shifted n (if not b then some zero else next (first not bs))) e ∙ ap some (add-zero n)
 
     pub fault_later : b ≡ true → fault_in n (b ∷ bs) ≡ fault_in (n + 1) bs
     unfolding fault_in first
-    fault_later e = ap (λ b. shifted n (when not b then some zero else next (first not bs))) e ∙ shifted_next n (first not bs)
+    fault_later e = ap (λ b. shifted n (if not b then some zero else next (first not bs))) e ∙ shifted_next n (first not bs)
 
 -- ------------------------------------------------------------------ part after part
 

@@ -7,7 +7,8 @@ use mathlib.Core.Option.{Option, none, some}
 use lib.ListN.{length}
 use lib.Dec.{ltb}
 use borrow.Author.Tests.{lt-ltb, le-ltb}
-use Rattle.model.specs.Common.{when◌then◌else◌, let_some}
+use Rattle.std.specs.Prelude.{if◌then◌else◌}
+use Rattle.model.specs.Common.{let_some}
 use Rattle.model.specs.Records.{Module, Question, Index}
 use Rattle.model.specs.Lookups.{module_at}
 use Rattle.model.specs.Links.{link}
@@ -23,7 +24,7 @@ abbrev type_test : ℕ → ℕ → Module → Bool
 type_test t s the_module = ltb t (length the_module.types) && ltb s (length the_module.scopes)
 
 -- the module is there, or not
-module _ (file words : List ℕ) (m : ℕ) (b : Bool) (is : module_at (index_of file words) m ≡ (when b then some (module_row file words m) else none)) where
+module _ (file words : List ℕ) (m : ℕ) (b : Bool) (is : module_at (index_of file words) m ≡ (if b then some (module_row file words m) else none)) where
   abbrev index : Index
   index = index_of file words
 
@@ -31,10 +32,10 @@ module _ (file words : List ℕ) (m : ℕ) (b : Bool) (is : module_at (index_of 
   the_module = module_row file words m
 
   without : (test : Module → Bool) → b ≡ false → true ≡ let_some (module_at index m) true test
-  without test h = sym (ap (λ o. let_some o true test) (is ∙ ap (λ b. when b then some the_module else none) h))
+  without test h = sym (ap (λ o. let_some o true test) (is ∙ ap (λ b. if b then some the_module else none) h))
 
   within : (test : Module → Bool) (c : Bool) → b ≡ true → c ≡ test the_module → c ≡ let_some (module_at index m) true test
-  within test c h e = e ∙ sym (ap (λ o. let_some o true test) (is ∙ ap (λ b. when b then some the_module else none) h))
+  within test c h e = e ∙ sym (ap (λ o. let_some o true test) (is ∙ ap (λ b. if b then some the_module else none) h))
 
   module _ (e : ℕ) (t : Option ℕ) where
     pub context_no_module : b ≡ false → true ≡ question_linked index (Question.expr m e t)

@@ -8,7 +8,8 @@ use native.Mathlib.Nat.{zero-add}
 use native.Mathlib.Omega.{arith}
 use lib.Dec.{eqb}
 use borrow.Author.Tests.{eq-eqb, ne_eqb}
-use Rattle.model.specs.Common.{Text, when◌then◌else◌, first, next, is_none, eq_numbers, total}
+use Rattle.std.specs.Prelude.{if◌then◌else◌}
+use Rattle.model.specs.Common.{Text, first, next, is_none, eq_numbers, total}
 use Rattle.model.specs.Records.{Name, Scope, TypeExpr, Definition, ExpressionInfo, Module, Index}
 use Rattle.model.proofs.Tests.{eqb_sound}
 use Rattle.model.specs.Lookups.{module_named, module_by_name}
@@ -69,7 +70,7 @@ module _ {A : Type 0} (test : A → Bool) (g : ℕ → A) (n i : ℕ) (h : i < n
   unfolding first
   found_here e = ap (λ l. not (is_none (first test l))) (each_unroll g 0 n i h) ∙ at (test (g (0 + i))) (ap (λ k. test (g k)) (zero-add i) ∙ e)
     where
-      at : (b : Bool) → b ≡ true → not (is_none (when b then some zero else next (first test (each g (0 + (i + 1)) (n - (i + 1)))))) ≡ true
+      at : (b : Bool) → b ≡ true → not (is_none (if b then some zero else next (first test (each g (0 + (i + 1)) (n - (i + 1)))))) ≡ true
       at true e = refl
       at false e = absurd (false≢true e)
 
@@ -81,7 +82,7 @@ module _ {A : Type 0} (test : A → Bool) (g : ℕ → A) (n i : ℕ) (h : i < n
       none_next none = refl
       none_next (some k) = refl
 
-      at : (b : Bool) → b ≡ false → not (is_none (when b then some zero else next (first test (each g (0 + (i + 1)) (n - (i + 1)))))) ≡ not (is_none (first test (each g (0 + (i + 1)) (n - (i + 1)))))
+      at : (b : Bool) → b ≡ false → not (is_none (if b then some zero else next (first test (each g (0 + (i + 1)) (n - (i + 1)))))) ≡ not (is_none (first test (each g (0 + (i + 1)) (n - (i + 1)))))
       at true e = absurd (false≢true (sym e))
       at false e = none_next (first test (each g (0 + (i + 1)) (n - (i + 1))))
 
@@ -96,7 +97,7 @@ found_begun test g n = ap (λ l. not (is_none (first test l))) (each_begun g 0 n
 first_by : {A B : Type 0} (f : A → B) (test : B → Bool) (g : ℕ → A) (start n : ℕ) → first (λ a. test (f a)) (each g start n) ≡ first test (each (λ i. f (g i)) start n)
 unfolding first each
 first_by f test g start zero = refl
-first_by f test g start (suc n) = ap (λ o. when test (f (g start)) then some zero else next o) (first_by f test g (suc start) n)
+first_by f test g start (suc n) = ap (λ o. if test (f (g start)) then some zero else next o) (first_by f test g (suc start) n)
 
 pub again_is : (version : ℕ) (file words : List ℕ) (n : Counts) → is_again (a_module (name_at file words n.modules)) (index_so_far version file words n) ≡ again file words n.modules
 unfolding is_again module_by_name module_named again index_so_far module_by
@@ -126,15 +127,15 @@ module _ {A : Type 0} (row : ℕ → A) (words : List ℕ) (k : ℕ) where
   rows_older : (total total' m i : ℕ) → i < m → rows_so_far row total' (suc m) words i k ≡ rows_so_far row total (suc m) words i k
   unfolding rows_so_far
   rows_older total total' m i h =
-      (λ d. each row (begin_of words i k) ((when off d then total' else end_of words i k) - begin_of words i k))
-      ∙ sym (λ d. each row (begin_of words i k) ((when off d then total else end_of words i k) - begin_of words i k))
+      (λ d. each row (begin_of words i k) ((if off d then total' else end_of words i k) - begin_of words i k))
+      ∙ sym (λ d. each row (begin_of words i k) ((if off d then total else end_of words i k) - begin_of words i k))
     where
       off : eqb (suc i) (suc m) ≡ false
       off = ne_eqb (suc i) (suc m) (λ e. omega (arith, h, e))
 
   rows_last : (total m : ℕ) → rows_so_far row total (suc m) words m k ≡ each row (begin_of words m k) (total - begin_of words m k)
   unfolding rows_so_far
-  rows_last total m = λ d. each row (begin_of words m k) ((when same_number (suc m) d then total else end_of words m k) - begin_of words m k)
+  rows_last total m = λ d. each row (begin_of words m k) ((if same_number (suc m) d then total else end_of words m k) - begin_of words m k)
 
   rows_more : (total m : ℕ) → begin_of words m k ≤ total → rows_so_far row (total + 1) (suc m) words m k ≡ rows_so_far row total (suc m) words m k ++ (row total ∷ [])
   rows_more total m h =
@@ -226,14 +227,14 @@ module _ (file words : List ℕ) where
       rows_closed : (i : ℕ) → i < n.modules → rows_so_far row total (suc n.modules) words i k ≡ rows_so_far row total n.modules words i k
       unfolding rows_so_far
       rows_closed i h =
-          (λ d. each row (begin_of words i k) ((when off d then total else end_of words i k) - begin_of words i k))
+          (λ d. each row (begin_of words i k) ((if off d then total else end_of words i k) - begin_of words i k))
           ∙ at (eqb (suc i) n.modules) refl
         where
           off : eqb (suc i) (suc n.modules) ≡ false
           off = ne_eqb (suc i) (suc n.modules) (λ e. omega (arith, h, e))
 
           at : (b : Bool) → eqb (suc i) n.modules ≡ b
-              → each row (begin_of words i k) (end_of words i k - begin_of words i k) ≡ each row (begin_of words i k) ((when b then total else end_of words i k) - begin_of words i k)
+              → each row (begin_of words i k) (end_of words i k - begin_of words i k) ≡ each row (begin_of words i k) ((if b then total else end_of words i k) - begin_of words i k)
           at false e = refl
           at true e =
               ap (λ v. each row (begin_of words i k) (v - begin_of words i k))

@@ -8,7 +8,8 @@ use native.Mathlib.Nat.{not-suc-le-zero}
 use native.Mathlib.Omega.{arith}
 use lib.Dec.{eqb}
 use lib.ListN.{length, drop, length-append, length-map, drop_of_length-le}
-use Rattle.model.specs.Common.{Text, when◌then◌else◌, is_empty, total}
+use Rattle.std.specs.Prelude.{if◌then◌else◌}
+use Rattle.model.specs.Common.{Text, is_empty, total}
 use Rattle.model.specs.Limits.{scope_count, type_expr_count, definition_count, expression_count, item_count}
 use Rattle.model.specs.Records.{Module, Index}
 use Rattle.model.proofs.Tests.{eqb_sound}
@@ -139,7 +140,7 @@ module _ {A : Type 0} (row : ℕ → A) (words : List ℕ) (modules k total : �
   unfolding rows_of rows_so_far
   rows_ended i h = at (eqb (suc i) modules) refl
     where
-      at : (b : Bool) → eqb (suc i) modules ≡ b → each row (begin_of words i k) (end_of words i k - begin_of words i k) ≡ each row (begin_of words i k) ((when b then total else end_of words i k) - begin_of words i k)
+      at : (b : Bool) → eqb (suc i) modules ≡ b → each row (begin_of words i k) (end_of words i k - begin_of words i k) ≡ each row (begin_of words i k) ((if b then total else end_of words i k) - begin_of words i k)
       at false e = refl
       at true e = ap (λ v. each row (begin_of words i k) (v - begin_of words i k)) (ap (word words) (place (eqb_sound (suc i) modules e)) ∙ ends)
         where

@@ -7,7 +7,8 @@ use mathlib.Core.Option.{Option, none, some}
 use native.Mathlib.Omega.{arith}
 use lib.Dec.{leb}
 use lib.ListN.{length, drop}
-use Rattle.model.specs.Common.{Text, let_some, when◌then◌else◌, first, next}
+use Rattle.std.specs.Prelude.{if◌then◌else◌}
+use Rattle.model.specs.Common.{Text, let_some, first, next}
 use Rattle.model.specs.Limits.{max_number, max_position, max_size}
 use Rattle.model.proofs.Tests.{leb_le, and_left, and_right}
 use Rattle.format.specs.declared.Kind.{Kind}
@@ -81,7 +82,7 @@ unfolding first
 place_bound test [] = nothing
 place_bound test (x ∷ xs) = of (test x) (place_bound test xs)
   where
-    of : (b : Bool) {o : Option ℕ} → Every (λ (n : ℕ). n < length xs) o → Every (λ (n : ℕ). n < suc (length xs)) (when b then some zero else next o)
+    of : (b : Bool) {o : Option ℕ} → Every (λ (n : ℕ). n < length xs) o → Every (λ (n : ℕ). n < suc (length xs)) (if b then some zero else next o)
     of true h = this zero (omega arith)
     of false nothing = nothing
     of false (this n p) = this (suc n) (omega arith)

@@ -8,7 +8,8 @@ use native.Mathlib.Omega.{arith}
 use lib.ListN.{length, take, drop, replicate, length-take, length-drop, length-append, length-replicate}
 use lib.Seq.{take-append_seam, drop-append_seam}
 use borrow.Author.Tests.{le-ltb}
-use Rattle.model.specs.Common.{Text, let_some, when◌then◌else◌, bytes, first}
+use Rattle.std.specs.Prelude.{if◌then◌else◌}
+use Rattle.model.specs.Common.{Text, let_some, bytes, first}
 use Rattle.model.specs.Limits.{max_bytes, record_words}
 use Rattle.model.specs.Records.{Index}
 use Rattle.model.proofs.Tests.{lt-ltb, none≢some, some-injective, eq_numbers_sound}
@@ -26,7 +27,7 @@ unfolding version_of place_in first is_keyword
 version_long file version e = of (is_keyword {A = ℕ} (take first_line_length file) (keyword "index\t1\n" 1)) refl e
   where
     of : (b : Bool) → is_keyword {A = ℕ} (take first_line_length file) (keyword "index\t1\n" 1) ≡ b
-        → ◌≡◌ {A = Option ℕ} (let_some (when b then some 0 else none) none (λ n. some (word_at first_lines 0 n))) (some version) → 8 ≤ length file
+        → ◌≡◌ {A = Option ℕ} (let_some (if b then some 0 else none) none (λ n. some (word_at first_lines 0 n))) (some version) → 8 ≤ length file
     of true is h = omega (arith, ap length (eq_numbers_sound (take first_line_length file) (bytes "index\t1\n") is), length-take first_line_length file)
     of false is h = absurd (none≢some h)
 

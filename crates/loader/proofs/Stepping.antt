@@ -8,7 +8,7 @@ use native.Mathlib.Omega.{arith}
 use lib.Dec.{eqb, ltb}
 use lib.ListN.{length, take, drop, get_or, drop_of_length-le}
 use borrow.Author.Tests.{eq-eqb, ne_eqb, le-ltb}
-use Rattle.model.specs.Common.{when◌then◌else◌}
+use Rattle.std.specs.Prelude.{if◌then◌else◌}
 use Rattle.model.specs.Limits.{max_items, item_count}
 use Rattle.model.proofs.Tests.{lt-ltb, and_left}
 use Rattle.format.specs.declared.LineWord.{LineWord}
@@ -64,7 +64,7 @@ module _ (version : ℕ) {file words : List ℕ} (n : Counts) (good : Good file 
       -- how the definition judges a line of right form
       abbrev judging : Bool → Bool → Step
       judging many fits =
-          when many then refuse 3 else when fits then ended (record { stage = stage_of w; index = add line.entry now_seen.index }) (drop end file) else refuse 4
+          if many then refuse 3 else if fits then ended (record { stage = stage_of w; index = add line.entry now_seen.index }) (drop end file) else refuse 4
 
       judged_by : step_on now_seen (drop at file)
           ≡ judging (ltb max_items (n.items + count)) (in_place w n.stage && not (is_again line.entry now_seen.index))
@@ -108,11 +108,11 @@ module _ (version : ℕ) {file words : List ℕ} (n : Counts) (good : Good file 
           step_cut h = ending ∙ ap (ended _) (drop_of_length-le file h)
 
           ending_at : end < length file → step_on now_seen (drop at file)
-              ≡ (when eqb (get_or file end 0) 10 then go (record { stage = stage_of w; index = add line.entry now_seen.index }) (drop (end + 1) file) else refuse 4)
+              ≡ (if eqb (get_or file end 0) 10 then go (record { stage = stage_of w; index = add line.entry now_seen.index }) (drop (end + 1) file) else refuse 4)
           ending_at h = ending ∙ ap (ended _) (here file end h)
 
           pub step_unended : end < length file → (get_or file end 0 ≡ 10 → ⊥) → step_on now_seen (drop at file) ≡ refuse 4
-          step_unended h e = ending_at h ∙ ap (λ b. when b then go (record { stage = stage_of w; index = add line.entry now_seen.index }) (drop (end + 1) file) else refuse 4) (ne_eqb (get_or file end 0) 10 e)
+          step_unended h e = ending_at h ∙ ap (λ b. if b then go (record { stage = stage_of w; index = add line.entry now_seen.index }) (drop (end + 1) file) else refuse 4) (ne_eqb (get_or file end 0) 10 e)
 
           pub placed : in_place w n.stage ≡ true
           placed = and_left (in_place w n.stage) (not (repeated file words' w n.modules)) stands
@@ -120,5 +120,5 @@ module _ (version : ℕ) {file words : List ℕ} (n : Counts) (good : Good file 
           pub step_goes : end < length file → get_or file end 0 ≡ 10 → step_on now_seen (drop at file) ≡ go (seen_as version file words' (counts_after w n count)) (drop (end + 1) file)
           step_goes h e =
               ending_at h
-              ∙ ap (λ b. when b then go (record { stage = stage_of w; index = add line.entry now_seen.index }) (drop (end + 1) file) else refuse 4) (eq-eqb (get_or file end 0) 10 e)
+              ∙ ap (λ b. if b then go (record { stage = stage_of w; index = add line.entry now_seen.index }) (drop (end + 1) file) else refuse 4) (eq-eqb (get_or file end 0) 10 e)
               ∙ (λ i. go (record { stage = sym (stage_after n count w) i; index = sym (index_after n good w (drop p file) count end room left line few placed version) i }) (drop (end + 1) file))

@@ -1,6 +1,7 @@
 -- What the words hold while the lines are read: rows, and the counts beside them. Assumes nothing.
 use Rattle.std.specs.Prelude.{ℕ, suc, ◌+◌, ◌-◌, ◌≤◌, ◌<◌, ◌≡◌, List, Bool, true, eqb, ltb, length}
-use Rattle.model.specs.Common.{Text, when◌then◌else◌}
+use Rattle.std.specs.Prelude.{if◌then◌else◌}
+use Rattle.model.specs.Common.{Text}
 use Rattle.model.specs.Records.{Module, Index}
 use Rattle.format.specs.declared.LineWord.{LineWord}
 use Rattle.format.specs.Lines.{Entry, a_module, a_scope, a_type, a_definition, an_expression, a_question}
@@ -35,7 +36,7 @@ use Rattle.loader.specs.declared.rows.Counts.{Counts}
 
 -- where a module's rows of a kind end: the last module's are all that there are so far
 abbrev pub end_so_far : ℕ → ℕ → List ℕ → ℕ → ℕ → ℕ
-end_so_far total modules words m k = when eqb (suc m) modules then total else end_of words m k
+end_so_far total modules words m k = if eqb (suc m) modules then total else end_of words m k
 
 unfoldable pub rows_so_far : {A : Type 0} → (ℕ → A) → ℕ → ℕ → List ℕ → ℕ → ℕ → List A
 rows_so_far row total modules words m k = each row (begin_of words m k) (end_so_far total modules words m k - begin_of words m k)

@@ -11,7 +11,8 @@ use mathlib.Core.Option.{Option, none, some}
 use lib.Dec.{leb, ltb}
 use borrow.Author.Tests.{leb-false}
 use lib.ListN.{length, get_elem?}
-use Rattle.model.specs.Common.{when◌then◌else◌, any}
+use Rattle.std.specs.Prelude.{if◌then◌else◌}
+use Rattle.model.specs.Common.{any}
 use Rattle.model.specs.Records.{ExpressionInfo, Module}
 use Rattle.model.specs.Lookups.{covers, span, covers_shorter, covers_shortest, expression_at_position}
 use Rattle.model.specs.AtPosition.{Shortest, NoneCovers, Chosen, Best, better, turn, best_number}
@@ -93,7 +94,7 @@ module _ (position : ℕ) where
   unfolding turn better
   kept_turn done none x kept = by_test (covers position x) refl
     where
-      by_test : (b : Bool) → covers position x ≡ b → Kept (done ++ (x ∷ [])) (when b then some (record { number = length done; length = span x }) else none)
+      by_test : (b : Bool) → covers position x ≡ b → Kept (done ++ (x ∷ [])) (if b then some (record { number = length done; length = span x }) else none)
       by_test true e = new_best done x e (λ k y old h. absurd (kept k y old h))
       by_test false e =
           λ k y h covering.
@@ -101,7 +102,7 @@ module _ (position : ℕ) where
   kept_turn done (some best) x kept = by_test (covers position x) refl (leb (span x) best.length) refl
     where
       by_test : (b : Bool) → covers position x ≡ b → (c : Bool) → leb (span x) best.length ≡ c
-          → Kept (done ++ (x ∷ [])) (when (b && c) then some (record { number = length done; length = span x }) else some best)
+          → Kept (done ++ (x ∷ [])) (if (b && c) then some (record { number = length done; length = span x }) else some best)
       by_test true e true f =
           new_best done x e (λ k y old h. omega (arith, leb_le (span x) best.length f, kept.its_length, kept.shortest.none_shorter k y old h))
       by_test true e false f = old_best done x best kept (λ h. leb-false (span x) best.length f)

@@ -5,7 +5,8 @@ use mathlib.Core.Bool.{Bool, true, false, ◌||◌, false≢true}
 use mathlib.Core.List.{List, [], ◌∷◌, ◌++◌}
 use mathlib.Core.Option.{Option, none, some}
 use lib.ListN.{length, get_elem?}
-use Rattle.model.specs.Common.{when◌then◌else◌, let_some, or_else, next, first, last, any}
+use Rattle.std.specs.Prelude.{if◌then◌else◌}
+use Rattle.model.specs.Common.{let_some, or_else, next, first, last, any}
 use Rattle.model.proofs.Tests.{or_right}
 
 -- ------------------------------------------------------------------ places
@@ -29,22 +30,22 @@ pub first_same : {A : Type 0} (test test' : A → Bool) (xs ys : List A)
 unfolding first
 first_same test test' [] [] h = refl
 first_same test test' [] (y ∷ ys) h =
-    λ i. when h zero i then some zero else next (first_same test test' [] ys (λ n. h (suc n)) i)
+    λ i. if h zero i then some zero else next (first_same test test' [] ys (λ n. h (suc n)) i)
 first_same test test' (x ∷ xs) [] h =
-    λ i. when h zero i then some zero else next (first_same test test' xs [] (λ n. h (suc n)) i)
+    λ i. if h zero i then some zero else next (first_same test test' xs [] (λ n. h (suc n)) i)
 first_same test test' (x ∷ xs) (y ∷ ys) h =
-    λ i. when h zero i then some zero else next (first_same test test' xs ys (λ n. h (suc n)) i)
+    λ i. if h zero i then some zero else next (first_same test test' xs ys (λ n. h (suc n)) i)
 
 pub last_same : {A : Type 0} (test test' : A → Bool) (xs ys : List A)
     → ((n : ℕ) → passes test xs n ≡ passes test' ys n) → last test xs ≡ last test' ys
 unfolding last
 last_same test test' [] [] h = refl
 last_same test test' [] (y ∷ ys) h =
-    λ i. or_else (next (last_same test test' [] ys (λ n. h (suc n)) i)) (when h zero i then some zero else none)
+    λ i. or_else (next (last_same test test' [] ys (λ n. h (suc n)) i)) (if h zero i then some zero else none)
 last_same test test' (x ∷ xs) [] h =
-    λ i. or_else (next (last_same test test' xs [] (λ n. h (suc n)) i)) (when h zero i then some zero else none)
+    λ i. or_else (next (last_same test test' xs [] (λ n. h (suc n)) i)) (if h zero i then some zero else none)
 last_same test test' (x ∷ xs) (y ∷ ys) h =
-    λ i. or_else (next (last_same test test' xs ys (λ n. h (suc n)) i)) (when h zero i then some zero else none)
+    λ i. or_else (next (last_same test test' xs ys (λ n. h (suc n)) i)) (if h zero i then some zero else none)
 
 pub any_same : {A : Type 0} (test test' : A → Bool) (xs ys : List A)
     → ((n : ℕ) → passes test xs n ≡ passes test' ys n) → any test xs ≡ any test' ys
@@ -80,9 +81,9 @@ pub first_is : {A : Type 0} (test : A → Bool) (xs : List A) (n : ℕ) → pass
     → first test xs ≡ some n
 unfolding first
 first_is test [] n e h = absurd (false≢true e)
-first_is test (x ∷ xs) zero e h = ap (λ b. when b then some zero else next (first test xs)) e
+first_is test (x ∷ xs) zero e h = ap (λ b. if b then some zero else next (first test xs)) e
 first_is test (x ∷ xs) (suc n) e h =
-    ap (λ b. when b then some zero else next (first test xs)) (h zero (suc-le-suc zero-le))
+    ap (λ b. if b then some zero else next (first test xs)) (h zero (suc-le-suc zero-le))
     ∙ ap next (first_is test xs n e (λ k k<n. h (suc k) (suc-le-suc k<n)))
 
 pub last_is : {A : Type 0} (test : A → Bool) (xs : List A) (n : ℕ) → passes test xs n ≡ true → ((k : ℕ) → n < k → passes test xs k ≡ false)
@@ -90,9 +91,9 @@ pub last_is : {A : Type 0} (test : A → Bool) (xs : List A) (n : ℕ) → passe
 unfolding last
 last_is test [] n e h = absurd (false≢true e)
 last_is test (x ∷ xs) zero e h =
-    λ i. or_else (next (last_none test xs (λ k. h (suc k) (suc-le-suc zero-le)) i)) (when e i then some zero else none)
+    λ i. or_else (next (last_none test xs (λ k. h (suc k) (suc-le-suc zero-le)) i)) (if e i then some zero else none)
 last_is test (x ∷ xs) (suc n) e h =
-    ap (λ o. or_else (next o) (when test x then some zero else none)) (last_is test xs n e (λ k n<k. h (suc k) (suc-le-suc n<k)))
+    ap (λ o. or_else (next o) (if test x then some zero else none)) (last_is test xs n e (λ k n<k. h (suc k) (suc-le-suc n<k)))
 
 -- ------------------------------------------------------------------ what is found passes the test
 
@@ -101,7 +102,7 @@ Holds test xs none = Unit {0}
 Holds test xs (some n) = passes test xs n ≡ true
 
 first_step : {A : Type 0} (test : A → Bool) (x : A) (xs : List A) (b : Bool) → test x ≡ b → (o : Option ℕ) → Holds test xs o
-    → Holds test (x ∷ xs) (when b then some zero else next o)
+    → Holds test (x ∷ xs) (if b then some zero else next o)
 first_step test x xs true e o h = e
 first_step test x xs false e none h = tt
 first_step test x xs false e (some n) h = h
@@ -112,7 +113,7 @@ first_holds test [] = tt
 first_holds test (x ∷ xs) = first_step test x xs (test x) refl (first test xs) (first_holds test xs)
 
 last_step : {A : Type 0} (test : A → Bool) (x : A) (xs : List A) (b : Bool) → test x ≡ b → (o : Option ℕ) → Holds test xs o
-    → Holds test (x ∷ xs) (or_else (next o) (when b then some zero else none))
+    → Holds test (x ∷ xs) (or_else (next o) (if b then some zero else none))
 last_step test x xs true e none h = e
 last_step test x xs false e none h = tt
 last_step test x xs b e (some n) h = h
@@ -140,7 +141,7 @@ first_none_fails test [] e n = refl
 first_none_fails test (x ∷ xs) e n = go (λ f k. first_none_fails test xs f k) (test x) refl e n
   where
     go : (first test xs ≡ none → (k : ℕ) → passes test xs k ≡ false) → (b : Bool) → test x ≡ b
-        → (when b then some zero else next (first test xs)) ≡ none → (k : ℕ) → passes test (x ∷ xs) k ≡ false
+        → (if b then some zero else next (first test xs)) ≡ none → (k : ℕ) → passes test (x ∷ xs) k ≡ false
     go rest true h f k = absurd (subst (λ (r : Option ℕ). let_some r ⊥ (λ j. Unit {0})) f tt)
     go rest false h f zero = h
     go rest false h f (suc k) = rest (next_none (first test xs) f) k
@@ -148,13 +149,13 @@ first_none_fails test (x ∷ xs) e n = go (λ f k. first_none_fails test xs f k)
 -- ------------------------------------------------------------------ one more element at the end: for a loop that goes forward
 
 pub last_append : {A : Type 0} (test : A → Bool) (xs : List A) (x : A)
-    → last test (xs ++ (x ∷ [])) ≡ (when test x then some (length xs) else last test xs)
+    → last test (xs ++ (x ∷ [])) ≡ (if test x then some (length xs) else last test xs)
 unfolding last
 last_append test [] x = refl
 last_append test (y ∷ ys) x =
-    ap (λ o. or_else (next o) (when test y then some zero else none)) (last_append test ys x) ∙ go (test x)
+    ap (λ o. or_else (next o) (if test y then some zero else none)) (last_append test ys x) ∙ go (test x)
   where
-    go : (b : Bool) → or_else (next (when b then some (length ys) else last test ys)) (when test y then some zero else none)
-        ≡ (when b then some (suc (length ys)) else or_else (next (last test ys)) (when test y then some zero else none))
+    go : (b : Bool) → or_else (next (if b then some (length ys) else last test ys)) (if test y then some zero else none)
+        ≡ (if b then some (suc (length ys)) else or_else (next (last test ys)) (if test y then some zero else none))
     go true = refl
     go false = refl

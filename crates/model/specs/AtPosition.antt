@@ -3,7 +3,8 @@
 use Rattle.std.specs.Prelude.{ℕ, ◌≤◌, ◌≡◌, Bool, true, ◌&&◌, List, leb}
 use Rattle.std.proofs.Math.Option.{Option, none, some}
 use Rattle.std.proofs.Math.ListN.{get_elem?}
-use Rattle.model.specs.Common.{when◌then◌else◌, let_some}
+use Rattle.std.specs.Prelude.{if◌then◌else◌}
+use Rattle.model.specs.Common.{let_some}
 use Rattle.model.specs.Records.{ExpressionInfo}
 use Rattle.model.specs.Lookups.{covers, span}
 
@@ -42,7 +43,7 @@ better position (some best) expression = covers position expression && leb (span
 -- one turn, at the expression of a number
 unfoldable pub turn : ℕ → ℕ → Option Best → ExpressionInfo → Option Best
 turn position number best expression =
-    when better position best expression then some (record { number = number; length = span expression }) else best
+    if better position best expression then some (record { number = number; length = span expression }) else best
 
 abbrev pub best_number : Option Best → Option ℕ
 best_number best = let_some best none λ b. some b.number

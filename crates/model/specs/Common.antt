@@ -1,15 +1,11 @@
 -- Choices, searches in lists and texts: the plain tools of the other files. Nothing here is about types. Assumes nothing.
-use Rattle.std.specs.Prelude.{ℕ, zero, suc, ◌+◌, Bool, true, false, ◌&&◌, ◌||◌, List, [], ◌∷◌, ◌++◌, eqb}
+use Rattle.std.specs.Prelude.{ℕ, zero, suc, ◌+◌, Bool, true, false, ◌&&◌, ◌||◌, List, [], ◌∷◌, ◌++◌, eqb, if◌then◌else◌}
 use Prim.Native.Char.{code}
 use Prim.Native.String.{String, [] as nil, ◌∷◌ as ◌then◌}
 use Rattle.std.proofs.Math.Option.{Option, none, some}
 
 -- ------------------------------------------------------------------ choices
 
-infix 5 when◌then◌else◌
-abbrev pub when◌then◌else◌ {ℓ} : {A : Type ℓ} → Bool → A → A → A
-when true then a else b = a
-when false then a else b = b
 
 -- Rust's `let Some(a) = o else { b }; f(a)`
 abbrev pub let_some {ℓ κ} : {A : Type ℓ} {B : Type κ} → Option A → B → (A → B) → B
@@ -44,12 +40,12 @@ next (some n) = some (suc n)
 -- the place of the first element that passes the test, counted from 0
 unfoldable pub first : {A : Type 0} → (A → Bool) → List A → Option ℕ
 first test [] = none
-first test (x ∷ xs) = when test x then some zero else next (first test xs)
+first test (x ∷ xs) = if test x then some zero else next (first test xs)
 
 -- the place of the last element that passes the test
 unfoldable pub last : {A : Type 0} → (A → Bool) → List A → Option ℕ
 last test [] = none
-last test (x ∷ xs) = or_else (next (last test xs)) (when test x then some zero else none)
+last test (x ∷ xs) = or_else (next (last test xs)) (if test x then some zero else none)
 
 -- some element passes the test
 unfoldable pub any : {A : Type 0} → (A → Bool) → List A → Bool
@@ -97,4 +93,4 @@ bytes (c then s) = code c ∷ bytes s
 -- a text as document 01 shows it, where `→` is a tab
 abbrev pub tabs : String → Text
 tabs nil = []
-tabs (c then s) = (when eqb (code c) 8594 then 9 else code c) ∷ tabs s
+tabs (c then s) = (if eqb (code c) 8594 then 9 else code c) ∷ tabs s

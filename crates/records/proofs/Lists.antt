@@ -9,7 +9,7 @@ use mathlib.Core.Bool.{Bool, true, false}
 use lib.Dec.{ltb}
 use borrow.Author.Tests.{ltb-true, ltb-false}
 use lib.ListN.{get_elem?, length, take, drop}
-use Rattle.model.specs.Common.{when◌then◌else◌}
+use Rattle.std.specs.Prelude.{if◌then◌else◌}
 use Rattle.records.specs.Layout.{word, each, begin_of, count_of, rows_of}
 
 module _ {A : Type 0} (f : ℕ → A) where
@@ -41,7 +41,7 @@ module _ {A : Type 0} (f : ℕ → A) where
   each_absent first count i past = sym (each_past first count i past)
 
   -- a list that begins at 0
-  pub each_if : (count i : ℕ) (b : Bool) → ltb i count ≡ b → get_elem? (each f 0 count) i ≡ (when b then some (f i) else none)
+  pub each_if : (count i : ℕ) (b : Bool) → ltb i count ≡ b → get_elem? (each f 0 count) i ≡ (if b then some (f i) else none)
   each_if count i true h = each_at 0 count i (ltb-true i count h) ∙ ap (λ k. some (f k)) (zero-add i)
   each_if count i false h = each_past 0 count i (ltb-false i count h)
 

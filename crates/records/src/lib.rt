@@ -4,7 +4,7 @@
 ghost use Rattle.std.specs.Prelude.{◌≡◌, ℕ, ◌+◌, List, length};
 ghost use Rattle.std.proofs.Math.Option.{none, some};
 ghost use Rattle.std.proofs.Math.ListN.{get_elem?};
-ghost use Rattle.model.specs.Common.{when◌then◌else◌};
+ghost use Rattle.std.specs.Prelude.{if◌then◌else◌};
 ghost use Rattle.model.specs.Lookups.{module_at, scope_at, type_expr_at, definition_at, expression_at};
 ghost use Rattle.records.specs.Layout.{word, link_by, name_by, suffix_by, size_by, item_value, item_name};
 ghost use Rattle.records.specs.Layout.{scope_kind_by, type_expr_by, definition_kind_by, origin_by, unary_op_by};
@@ -794,7 +794,7 @@ pub fn module_count(words: &[u32]) -> u32
 // Whether there is a module of that number.
 pub fn has_module(words: &[u32], m: u32) -> bool
     ensures { (file : List ℕ) → module_at (index_of file words.now) m
-        ≡ (when result then some (module_row file words.now m) else none) }
+        ≡ (if result then some (module_row file words.now m) else none) }
 {
     m < word_at(words, MODULE_COUNT)
 }

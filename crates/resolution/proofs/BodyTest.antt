@@ -8,7 +8,8 @@ use mathlib.Core.List.{List, [], ◌∷◌, ◌++◌, Memᴰ}
 use mathlib.Core.Option.{Option, none, some}
 use lib.Dec.{eqb}
 use lib.ListN.{get_elem?}
-use Rattle.model.specs.Common.{when◌then◌else◌, let_some, any, every}
+use Rattle.std.specs.Prelude.{if◌then◌else◌}
+use Rattle.model.specs.Common.{let_some, any, every}
 use Rattle.model.specs.Records.{Name, ScopeKind, Scope, TypeExpr, Definition, Expression, ExpressionInfo, Module, Index}
 use Rattle.model.specs.Lookups.{module_at, scope_at, parent, chain_from, scope_chain, among, covers}
 use Rattle.model.specs.Links.{scope_in, type_in, definition_in, expression_in, link, type_types, definition_types, definition_expressions, expression_types, expression_definitions, expression_expressions}
@@ -69,7 +70,7 @@ before none (o ∷ os) = none ∷ o ∷ os
 before (some x) os = some x ∷ os
 
 abbrev pub when : {A : Type 0} → (A → Bool) → A → Option A
-when test x = when test x then some x else none
+when test x = if test x then some x else none
 
 abbrev pub shown : {A : Type 0} → (ℕ → A → Bool) → List A → List (Option A)
 shown test [] = []
@@ -98,12 +99,12 @@ pub when_some : {A : Type 0} (test : A → Bool) (o : Option A) (y : A) → let_
 when_some test none y e = absurd (none≢some e)
 when_some {A} test (some x) y e = by_test (test x) refl e
   where
-    by_test : (t : Bool) → test x ≡ t → ◌≡◌ {A = Option A} (when t then some x else none) (some y) → (some x ≡ some y) × (test y ≡ true)
+    by_test : (t : Bool) → test x ≡ t → ◌≡◌ {A = Option A} (if t then some x else none) (some y) → (some x ≡ some y) × (test y ≡ true)
     by_test true h f = (f, ap test (sym (some-injective f)) ∙ h)
     by_test false h f = absurd (none≢some f)
 
 pub some_when : {A : Type 0} (test : A → Bool) (o : Option A) (x : A) → o ≡ some x → test x ≡ true → let_some o none (when test) ≡ some x
-some_when test o x e h = ap (λ r. let_some r none (when test)) e ∙ ap (λ t. when t then some x else none) h
+some_when test o x e h = ap (λ r. let_some r none (when test)) e ∙ ap (λ t. if t then some x else none) h
 
 -- a test that passes where nothing is found, or at what is found
 true_at : {A : Type 0} (test : A → Bool) (o : Option A) (x : A) → let_some o true test ≡ true → o ≡ some x → test x ≡ true

@@ -6,7 +6,8 @@ use mathlib.Core.Bool.{Bool, true, false}
 use mathlib.Core.List.{List}
 use mathlib.Core.Option.{Option, none, some}
 use lib.ListN.{get_elem?}
-use Rattle.model.specs.Common.{Text, when◌then◌else◌, let_some, joined}
+use Rattle.std.specs.Prelude.{if◌then◌else◌}
+use Rattle.model.specs.Common.{Text, let_some, joined}
 use Rattle.model.specs.Records.{Question, Index}
 use Rattle.model.specs.Limits.{max_questions}
 use Rattle.model.specs.Refusals.{refusal_link}
@@ -39,7 +40,7 @@ is_refused (Reply.file_refused number at_line) = true
 -- the lines of a question, asked one after the other; none where the file lacks the question
 unfoldable pub question_printed : Text → ℕ → Option Text
 question_printed file number =
-    when is_refused (answer file number 0) then none else some (texts_from max_lines (λ line. line_of (answer file number line)) 0)
+    if is_refused (answer file number 0) then none else some (texts_from max_lines (λ line. line_of (answer file number line)) 0)
 
 not_refused : (lines : List Line) (number : ℕ) → is_refused (line_at lines number) ≡ false
 unfolding line_at
@@ -63,14 +64,14 @@ module _ (file : Text) (index : Index) (loaded : load file ≡ accepted index) w
   one_printed number = go (get_elem? index.questions number) refl
     where
       go : (o : Option Question) → get_elem? index.questions number ≡ o
-          → (when is_refused (answer file number 0) then none else some (texts_from max_lines (λ line. line_of (answer file number line)) 0))
+          → (if is_refused (answer file number 0) then none else some (texts_from max_lines (λ line. line_of (answer file number line)) 0))
           ≡ let_some o none (λ q. some (joined line_text (question_lines index q)))
       go none h =
-          ap (λ r. when is_refused r then none else some (texts_from max_lines (λ line. line_of (answer file number line)) 0))
+          ap (λ r. if is_refused r then none else some (texts_from max_lines (λ line. line_of (answer file number line)) 0))
           (lacking_refused file index number 0 loaded h)
       go (some q) h =
           let asked = question_answered file number index q loaded h in
-          ap (λ b. when b then none else some (texts_from max_lines (λ line. line_of (answer file number line)) 0))
+          ap (λ b. if b then none else some (texts_from max_lines (λ line. line_of (answer file number line)) 0))
           (ap is_refused (asked 0) ∙ not_refused (question_lines index q) 0)
           ∙ ap some
           (texts_are line_text (question_lines index q) (λ line. line_of (answer file number line))

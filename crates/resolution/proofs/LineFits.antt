@@ -7,7 +7,8 @@ use mathlib.Core.List.{[], ◌∷◌, ◌++◌}
 use mathlib.Core.Option.{Option, none, some}
 use lib.Dec.{ltb, leb}
 use lib.ListN.{length, get_elem?, length-append}
-use Rattle.model.specs.Common.{Text, when◌then◌else◌, let_some, bytes}
+use Rattle.std.specs.Prelude.{if◌then◌else◌}
+use Rattle.model.specs.Common.{Text, let_some, bytes}
 use Rattle.model.specs.Records.{Question, Index}
 use Rattle.model.specs.Limits.{max_number, max_position, answer_bytes}
 use Rattle.model.proofs.Tests.{leb_le, ltb-false, none≢some, some-injective}
@@ -94,7 +95,7 @@ text_fits : (text : Text) → Fits (text_verdict text)
 unfolding text_verdict
 text_fits text = at_test (leb (length text) max_text) refl
   where
-    at_test : (b : Bool) → leb (length text) max_text ≡ b → Fits (when b then Verdict.typed text else Verdict.refused 10)
+    at_test : (b : Bool) → leb (length text) max_text ≡ b → Fits (if b then Verdict.typed text else Verdict.refused 10)
     at_test true e = leb_le (length text) max_text e
     at_test false e = omega arith
 

@@ -5,7 +5,8 @@ use mathlib.Core.Bool.{true, false}
 use mathlib.Core.List.{List, [], ◌∷◌, ◌++◌}
 use mathlib.Core.Option.{none, some}
 use lib.ListN.{length, get_or, get_elem?, drop}
-use Rattle.model.specs.Common.{when◌then◌else◌, let_some}
+use Rattle.std.specs.Prelude.{if◌then◌else◌}
+use Rattle.model.specs.Common.{let_some}
 use Rattle.model.specs.Records.{Index}
 use Rattle.resolution.specs.TypeData.{TypeData}
 use Rattle.resolution.specs.Types.{Table, find_type, has_room}
@@ -72,18 +73,18 @@ run_bind h (look k) f table = run_bind h (k table) f table
 
 pub enter_found : (row : TypeData) (table : Table) (t : ℕ) → find_type table row ≡ some t → enter_type row table ≡ answered t table
 unfolding enter_type
-enter_found row table t e = ap (λ o. let_some o (when has_room table row then answered (length table) (table ++ (row ∷ [])) else refused 9) (λ u. answered u table)) e
+enter_found row table t e = ap (λ o. let_some o (if has_room table row then answered (length table) (table ++ (row ∷ [])) else refused 9) (λ u. answered u table)) e
 
 pub enter_new : (row : TypeData) (table : Table) → find_type table row ≡ none → has_room table row ≡ true
     → enter_type row table ≡ answered (length table) (table ++ (row ∷ []))
 unfolding enter_type
 enter_new row table e room =
-    λ i. let_some (e i) (when room i then answered (length table) (table ++ (row ∷ [])) else refused 9) (λ u. answered u table)
+    λ i. let_some (e i) (if room i then answered (length table) (table ++ (row ∷ [])) else refused 9) (λ u. answered u table)
 
 pub enter_no_room : (row : TypeData) (table : Table) → find_type table row ≡ none → has_room table row ≡ false → enter_type row table ≡ refused 9
 unfolding enter_type
 enter_no_room row table e room =
-    λ i. let_some (e i) (when room i then answered (length table) (table ++ (row ∷ [])) else refused 9) (λ u. answered u table)
+    λ i. let_some (e i) (if room i then answered (length table) (table ++ (row ∷ [])) else refused 9) (λ u. answered u table)
 
 -- ------------------------------------------------------------------ a demand
 

@@ -8,7 +8,8 @@ use mathlib.Core.List.{List, [], ◌∷◌, map, Memᴰ}
 use mathlib.Core.Option.{Option, none, some}
 use lib.Dec.{T, eqb, ltb, ltb→lt, lit<}
 use lib.ListN.{length, get_elem?}
-use Rattle.model.specs.Common.{when◌then◌else◌, let_some, eq_numbers, bytes}
+use Rattle.std.specs.Prelude.{if◌then◌else◌}
+use Rattle.model.specs.Common.{let_some, eq_numbers, bytes}
 use Rattle.model.specs.Records.{Name, NameWithType, UnaryOp, BinaryOp}
 use Rattle.model.proofs.Tests.{none≢some, some-injective}
 use Rattle.resolution.specs.TypeData.{TypeData}
@@ -130,7 +131,7 @@ module _ {table : Table} (ok : TableOk table) where
   field_below [] name h = tt
   field_below (field ∷ fields) name h = go (eq_numbers field.name name) (field_below fields name (λ u named. h u (Memᴰ.tail named)))
     where
-      go : (b : Bool) → OptionBelow table (field_type fields name) → OptionBelow table (when b then some field.type else field_type fields name)
+      go : (b : Bool) → OptionBelow table (field_type fields name) → OptionBelow table (if b then some field.type else field_type fields name)
       go true rest = h field.type (Memᴰ.head refl)
       go false rest = rest
 
@@ -158,7 +159,7 @@ let_some_same : {A B : Type 0} (o : Option A) (b : B) {f g : A → B} → ((x : 
 let_some_same none b h = refl
 let_some_same (some x) b h = h x refl
 
-either : {B : Type 0} (P : B → Type 0) (c : Bool) (a b : B) → P a → P b → P (when c then a else b)
+either : {B : Type 0} (P : B → Type 0) (c : Bool) (a b : B) → P a → P b → P (if c then a else b)
 either P true a b h g = h
 either P false a b h g = g
 
@@ -255,7 +256,7 @@ module _ {table : Table} (ok : TableOk table) where
 
   pub numeric_type_later : {after : Table} → Extends table after → (t : ℕ) → Below table t → numeric after t ≡ numeric table t
   unfolding numeric
-  numeric_type_later x t h = λ i. when is_u32_or_felt (data_later x t h i) then some t else none
+  numeric_type_later x t h = λ i. if is_u32_or_felt (data_later x t h i) then some t else none
 
   pub numeric_later : {after : Table} → Extends table after → (context : Option ℕ) → OptionBelow table context
       → numeric_context after context ≡ numeric_context table context
@@ -268,7 +269,7 @@ module _ {table : Table} (ok : TableOk table) where
   unfolding element_contexts
   contexts_later x none count h = refl
   contexts_later x (some t) count h =
-      λ i. let_some (as_tuple (data_later x t h i)) [] λ ts. when eqb (length ts) count then ts else []
+      λ i. let_some (as_tuple (data_later x t h i)) [] λ ts. if eqb (length ts) count then ts else []
 
   pub hint_later : {after : Table} → Extends table after → (context : Option ℕ) → OptionBelow table context
       → element_hint after context ≡ element_hint table context
@@ -282,7 +283,7 @@ module _ {table : Table} (ok : TableOk table) where
   unary_later x [] h op t g = refl
   unary_later x (row ∷ rows) h op t g =
       λ i.
-      when eqb (unary_number row.op) (unary_number op) && compatible_later ok x t row.operand g (h row.operand (Memᴰ.head refl)) i
+      if eqb (unary_number row.op) (unary_number op) && compatible_later ok x t row.operand g (h row.operand (Memᴰ.head refl)) i
       then row.result
       else unary_later x rows (λ u named. h u (Memᴰ.tail named)) op t g i
 
@@ -293,7 +294,7 @@ module _ {table : Table} (ok : TableOk table) where
   binary_later x [] hl hr op l r gl gr = refl
   binary_later x (row ∷ rows) hl hr op l r gl gr =
       λ i.
-      when eqb (binary_number row.op) (binary_number op)
+      if eqb (binary_number row.op) (binary_number op)
       && (compatible_later ok x l row.left gl (hl row.left (Memᴰ.head refl)) i
       && compatible_later ok x r row.right gr (hr row.right (Memᴰ.head refl)) i)
       then row.result

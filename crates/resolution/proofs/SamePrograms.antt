@@ -8,7 +8,8 @@ use mathlib.Core.List.{List, [], ◌∷◌, ◌++◌, Memᴰ}
 use mathlib.Core.Option.{Option, none, some}
 use lib.ListN.{length, get_elem?}
 use lib.Dec.{eqb}
-use Rattle.model.specs.Common.{when◌then◌else◌, let_some, eq_numbers}
+use Rattle.std.specs.Prelude.{if◌then◌else◌}
+use Rattle.model.specs.Common.{let_some, eq_numbers}
 use Rattle.model.specs.Records.{Name, TypeExpr, NameWithType, DefinitionKind, Definition, Origin, UnaryOp, BinaryOp, Expression, ExpressionInfo, Module, Index}
 use Rattle.model.specs.Lookups.{module_at, type_expr_at, definition_at, expression_at, is_builtin_function_name, definition_for_identifier_expr}
 use Rattle.model.specs.Links.{link, links, type_types, field_types, definition_types, definition_expressions, origin_expressions, node_expressions, node_types, expression_types, type_in}
@@ -114,8 +115,8 @@ find_named (field ∷ fields) name = go (eq_numbers field.name name) (find_named
 
     go : (b : Bool) → Found (λ t. Memᴰ t (field_types fields)) (field_type fields name) (field_type fields name)
         → Found (λ t. Memᴰ t (field_types (field ∷ fields)))
-        (when b then some field.type else field_type fields name)
-        (when b then some field.type else field_type fields name)
+        (if b then some field.type else field_type fields name)
+        (if b then some field.type else field_type fields name)
     go true h = both field.type (Memᴰ.head refl)
     go false h = later h
 

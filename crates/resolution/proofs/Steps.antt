@@ -10,7 +10,8 @@ use mathlib.Core.Option.{Option, none, some}
 use mathlib.Core.Logic.{⊎_elim}
 use lib.Dec.{T, eqb, ltb, nltb→le}
 use lib.ListN.{get_or}
-use Rattle.model.specs.Common.{when◌then◌else◌, let_some, bytes}
+use Rattle.std.specs.Prelude.{if◌then◌else◌}
+use Rattle.model.specs.Common.{let_some, bytes}
 use Rattle.resolution.specs.TypeData.{TypeData}
 use Rattle.resolution.specs.Types.{Table, Array, data_of, as_tuple, as_pointer, as_array, is_error_or_unknown}
 use Rattle.resolution.specs.Compatible.{all_pairs, both_some, compatible_rows, compatible_within, are_types_compatible}
@@ -148,14 +149,14 @@ digits_same (suc k) (suc k') n h h' = go (λ m. digits_same k k' m) (ltb n 10) r
         (rest (n / 10) (le_trans (tenth_lower n e) (le_of_suc-le-suc h)) (le_trans (tenth_lower n e) (le_of_suc-le-suc h')))
 
 -- one digit, or the digits of the tenth and the last one
-pub decimal_step : (n : ℕ) → decimal n ≡ (when ltb n 10 then (48 + n) ∷ [] else decimal (n / 10) ++ ((48 + n % 10) ∷ []))
+pub decimal_step : (n : ℕ) → decimal n ≡ (if ltb n 10 then (48 + n) ∷ [] else decimal (n / 10) ++ ((48 + n % 10) ∷ []))
 unfolding decimal decimal_digits
 decimal_step n = go (ltb n 10) refl
   where
     go : (b : Bool) → ltb n 10 ≡ b
         → ◌≡◌ {A = List ℕ}
         (elim b [ true ↦ (48 + n) ∷ [] | false ↦ decimal_digits n (n / 10) ++ ((48 + n % 10) ∷ []) ])
-        (when b then (48 + n) ∷ [] else decimal_digits (suc (n / 10)) (n / 10) ++ ((48 + n % 10) ∷ []))
+        (if b then (48 + n) ∷ [] else decimal_digits (suc (n / 10)) (n / 10) ++ ((48 + n % 10) ∷ []))
     go true e = refl
     go false e =
         ap (λ (l : List ℕ). l ++ ((48 + n % 10) ∷ [])) (digits_same n (suc (n / 10)) (n / 10) (tenth_lower n e) (le_refl (suc (n / 10))))

@@ -10,7 +10,8 @@ use mathlib.Core.Option.{Option, none, some}
 use mathlib.Core.Logic.{◌⊎◌, ⊎_elim}
 use lib.Dec.{T, leb, ltb, leb→le, ltb→lt, lit≤}
 use lib.ListN.{length, get_elem?, length-append, get_or}
-use Rattle.model.specs.Common.{when◌then◌else◌, let_some}
+use Rattle.std.specs.Prelude.{if◌then◌else◌}
+use Rattle.model.specs.Common.{let_some}
 use Rattle.model.proofs.Tests.{and_left, and_right, none≢some, some-injective}
 use Rattle.model.proofs.Places.{getElem_below, getElem_snoc, getD_cases}
 use Rattle.resolution.specs.TypeData.{TypeData}
@@ -128,11 +129,11 @@ module _ (table : Table) (row : TypeData) (ok : TableOk table) (inner : (t : ℕ
   enter_ok = go (find_type table row) refl
     where
       room_case : find_type table row ≡ none → (b : Bool) → has_room table row ≡ b
-          → OutcomeOk Below table (when b then answered (length table) (table ++ (row ∷ [])) else refused 9)
+          → OutcomeOk Below table (if b then answered (length table) (table ++ (row ∷ [])) else refused 9)
       room_case is_new true room = (new_ok is_new room, longer, omega (arith, length-append table (row ∷ [])))
       room_case is_new false room = (lit≤ tt, lit≤ tt)
 
       go : (o : Option ℕ) → find_type table row ≡ o
-          → OutcomeOk Below table (let_some o (when has_room table row then answered (length table) (table ++ (row ∷ [])) else refused 9) (λ t. answered t table))
+          → OutcomeOk Below table (let_some o (if has_room table row then answered (length table) (table ++ (row ∷ [])) else refused 9) (λ t. answered t table))
       go none e = room_case e (has_room table row) refl
       go (some t) e = (ok, extends_refl table, getElem_below table t (find_type_some table row t e))

@@ -1,7 +1,8 @@
 -- The answer lines: the text of a type, refusal 10, and the lines of a question, byte for byte. Assumes nothing.
 use Rattle.std.specs.Prelude.{ℕ, zero, suc, ◌+◌, ◌/◌, ◌%◌, Bool, true, false, List, [], ◌∷◌, ◌++◌, ltb, leb, length}
 use Rattle.std.proofs.Math.Option.{Option, none, some}
-use Rattle.model.specs.Common.{Text, when◌then◌else◌, let_some, collect, joined, bytes}
+use Rattle.std.specs.Prelude.{if◌then◌else◌}
+use Rattle.model.specs.Common.{Text, let_some, collect, joined, bytes}
 use Rattle.model.specs.Records.{Question, Index}
 use Rattle.model.specs.Refusals.{refusal_text}
 use Rattle.resolution.specs.TypeData.{TypeData}
@@ -65,7 +66,7 @@ max_text = 4096
 
 -- 10: "a text over 4,096 bytes"
 unfoldable pub text_verdict : Text → Verdict
-text_verdict text = when leb (length text) max_text then Verdict.typed text else Verdict.refused refusal_text
+text_verdict text = if leb (length text) max_text then Verdict.typed text else Verdict.refused refusal_text
 
 unfoldable pub said_verdict : Table → Said → Option Verdict
 said_verdict table (Said.type t) = some (text_verdict (type_text table t))

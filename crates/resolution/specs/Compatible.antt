@@ -1,7 +1,8 @@
 -- `are_types_compatible` and the operator rows (`type_resolution.rs`). Assumes nothing.
 use Rattle.std.specs.Prelude.{ℕ, zero, suc, Bool, true, false, ◌&&◌, ◌||◌, List, [], ◌∷◌, eqb}
 use Rattle.std.proofs.Math.Option.{Option}
-use Rattle.model.specs.Common.{when◌then◌else◌, let_some}
+use Rattle.std.specs.Prelude.{if◌then◌else◌}
+use Rattle.model.specs.Common.{let_some}
 use Rattle.model.specs.Records.{UnaryOp, BinaryOp}
 use Rattle.resolution.specs.TypeData.{TypeData}
 use Rattle.resolution.specs.Types.{Table, data_of, as_tuple, as_pointer, as_array, is_error_or_unknown, felt, bool, u32, error}
@@ -115,14 +116,14 @@ binary_op_signatures =
 unfoldable pub unary_result : Table → List UnaryOpSignature → UnaryOp → ℕ → ℕ
 unary_result table [] op operand = error
 unary_result table (row ∷ rows) op operand =
-    when eqb (unary_number row.op) (unary_number op) && are_types_compatible table operand row.operand
+    if eqb (unary_number row.op) (unary_number op) && are_types_compatible table operand row.operand
     then row.result
     else unary_result table rows op operand
 
 unfoldable pub binary_result : Table → List OperatorSignature → BinaryOp → ℕ → ℕ → ℕ
 binary_result table [] op left right = error
 binary_result table (row ∷ rows) op left right =
-    when eqb (binary_number row.op) (binary_number op)
+    if eqb (binary_number row.op) (binary_number op)
     && (are_types_compatible table left row.left && are_types_compatible table right row.right)
     then row.result
     else binary_result table rows op left right

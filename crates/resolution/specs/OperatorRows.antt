@@ -3,7 +3,8 @@
 -- here from `get_unary_op_signatures` and `get_binary_op_signatures` (type_resolution.rs), in their order. Assumes nothing.
 use Prim.Native.String.{String}
 use Rattle.std.specs.Prelude.{◌≡◌, refl, Bool, ◌&&◌, List, [], ◌∷◌, ◌++◌, map, length}
-use Rattle.model.specs.Common.{Text, tabs, when◌then◌else◌, any, eq_numbers}
+use Rattle.std.specs.Prelude.{if◌then◌else◌}
+use Rattle.model.specs.Common.{Text, tabs, any, eq_numbers}
 use Rattle.resolution.specs.Resolve.{resolve}
 use Rattle.resolution.specs.Computes.{resolves}
 
@@ -96,7 +97,7 @@ same_operands row row' =
 -- the rows of the second list whose operator and operands are in no row of the first
 abbrev without : List OperatorRow → List OperatorRow → List OperatorRow
 without rows [] = []
-without rows (row ∷ more) = when any (same_operands row) rows then without rows more else row ∷ without rows more
+without rows (row ∷ more) = if any (same_operands row) rows then without rows more else row ∷ without rows more
 
 -- error for every operator with operands of felt, bool and u32 that are in no row above
 unfoldable pub other_unary_rows : List OperatorRow

@@ -59,7 +59,7 @@ look k >>= f = look (λ table. k table >>= f)
 abbrev pub ◌>>◌ : {A B : Type 0} → Program A → Program B → Program B
 p >> q = p >>= (λ a. q)
 
--- Choices between programs, as `when◌then◌else◌` and `let_some` of Common. They stay shut: the laws of a run are stated over them
+-- Choices between programs, as `if◌then◌else◌` and `let_some` of Common. They stay shut: the laws of a run are stated over them
 infix 5 when◌then◌else◌
 unfoldable pub when◌then◌else◌ : {A : Type 0} → Bool → Program A → Program A → Program A
 when true then p else q = p

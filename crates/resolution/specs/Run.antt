@@ -1,7 +1,8 @@
 -- What a program gives: interning with refusal 9, the list of open demands with refusals 7 and 8, and what is asked. Assumes nothing.
 use Rattle.std.specs.Prelude.{ℕ, zero, suc, Bool, true, false, List, [], ◌∷◌, ◌++◌, length}
 use Rattle.std.proofs.Math.Option.{none, some}
-use Rattle.model.specs.Common.{when◌then◌else◌, let_some, any, eq_numbers}
+use Rattle.std.specs.Prelude.{if◌then◌else◌}
+use Rattle.model.specs.Common.{let_some, any, eq_numbers}
 use Rattle.model.specs.Records.{Index}
 use Rattle.model.specs.Limits.{max_open_demands}
 use Rattle.model.specs.Refusals.{refusal_open, refusal_depth, refusal_types}
@@ -26,7 +27,7 @@ unfoldable pub enter_type : TypeData → Table → Outcome ℕ
 enter_type row table =
     let_some
     (find_type table row)
-    (when has_room table row then answered (length table) (table ++ (row ∷ [])) else refused refusal_types)
+    (if has_room table row then answered (length table) (table ++ (row ∷ [])) else refused refusal_types)
     λ t. answered t table
 
 -- a program, where `handler` answers its demands

@@ -1,7 +1,8 @@
 -- The types of one question (`types.rs`): a table of rows, in which equal types have one number. Assumes nothing.
 use Rattle.std.specs.Prelude.{ℕ, ◌+◌, Bool, true, false, ◌&&◌, ◌||◌, List, [], ◌∷◌, map, eqb, leb, ltb, length, get_or}
 use Rattle.std.proofs.Math.Option.{Option, none, some}
-use Rattle.model.specs.Common.{when◌then◌else◌, first, eq_numbers}
+use Rattle.std.specs.Prelude.{if◌then◌else◌}
+use Rattle.model.specs.Common.{first, eq_numbers}
 use Rattle.model.specs.Records.{Name, NameWithType}
 use Rattle.resolution.specs.TypeData.{TypeData}
 
@@ -143,7 +144,7 @@ as_function (TypeData.Function m d params t) = some (record { params = params; r
 -- struct definition, where it is a T's
 unfoldable pub field_type : List NameWithType → Name → Option ℕ
 field_type [] name = none
-field_type (field ∷ fields) name = when eq_numbers field.name name then some field.type else field_type fields name
+field_type (field ∷ fields) name = if eq_numbers field.name name then some field.type else field_type fields name
 
 -- ------------------------------------------------------------------ the table
 

@@ -2,7 +2,8 @@
 use Rattle.std.specs.Prelude.{ℕ, Bool, true, false, not, ◌&&◌, List, [], ◌∷◌, eqb, length}
 use Rattle.std.proofs.Math.Option.{Option, none, some}
 use Rattle.std.proofs.Math.ListN.{get_elem?}
-use Rattle.model.specs.Common.{when◌then◌else◌, let_some, eq_numbers, bytes}
+use Rattle.std.specs.Prelude.{if◌then◌else◌}
+use Rattle.model.specs.Common.{let_some, eq_numbers, bytes}
 use Rattle.model.specs.Records.{Name, TypeExpr, NameWithType, DefinitionKind, BinaryOp, Expression, Module}
 use Rattle.model.specs.Lookups.{type_expr_at, expression_at, is_builtin_function_name}
 use Rattle.resolution.specs.Types.{Table, field_type, is_u32_or_felt, as_tuple, as_array, data_of, felt, u32, error}
@@ -134,7 +135,7 @@ navigate table current (index ∷ path) =
 
 -- the type itself, if it is u32 or felt
 unfoldable pub numeric : Table → ℕ → Option ℕ
-numeric table t = when is_u32_or_felt (data_of table t) then some t else none
+numeric table t = if is_u32_or_felt (data_of table t) then some t else none
 
 -- the context itself if it is u32 or felt, else felt
 unfoldable pub numeric_context : Table → Option ℕ → ℕ
@@ -145,7 +146,7 @@ numeric_context table (some t) = let_some (numeric table t) felt (λ u. u)
 unfoldable pub element_contexts : Table → Option ℕ → ℕ → List ℕ
 element_contexts table none count = []
 element_contexts table (some t) count =
-    let_some (as_tuple (data_of table t)) [] λ ts. when eqb (length ts) count then ts else []
+    let_some (as_tuple (data_of table t)) [] λ ts. if eqb (length ts) count then ts else []
 
 -- the element of a context that is an array
 unfoldable pub element_hint : Table → Option ℕ → Option ℕ
@@ -156,4 +157,4 @@ element_hint table (some t) = let_some (as_array (data_of table t)) none λ arra
 unfoldable pub suffix_type : Option Name → Option ℕ
 suffix_type none = none
 suffix_type (some suffix) =
-    when eq_numbers suffix (bytes "u32") then some u32 else when eq_numbers suffix (bytes "felt") then some felt else none
+    if eq_numbers suffix (bytes "u32") then some u32 else if eq_numbers suffix (bytes "felt") then some felt else none

@@ -7,7 +7,7 @@ use mathlib.Core.List.{List, [], ◌∷◌, ◌++◌}
 use mathlib.Core.Option.{Option, none, some}
 use lib.Dec.{leb, ltb}
 use borrow.Author.Tests.{le-leb, lt-leb, lt-ltb, le-ltb}
-use Rattle.model.specs.Common.{when◌then◌else◌}
+use Rattle.std.specs.Prelude.{if◌then◌else◌}
 use Rattle.model.specs.Records.{ExpressionInfo}
 use Rattle.model.specs.Lookups.{covers, span, expression_at_position}
 use Rattle.model.specs.AtPosition.{Best, better, turn, best_number}
@@ -25,8 +25,8 @@ module _ (position number start end : ℕ) (x : ExpressionInfo) (is_start : star
 
   not_covering : (best : Option Best) → covers position x ≡ false → best ≡ turn position number best x
   unfolding turn better
-  not_covering none e = ap (λ b. when b then some (record { number = number; length = span x }) else none) (sym e)
-  not_covering (some best) e = ap (λ b. when (b && leb (span x) best.length) then some (record { number = number; length = span x }) else some best) (sym e)
+  not_covering none e = ap (λ b. if b then some (record { number = number; length = span x }) else none) (sym e)
+  not_covering (some best) e = ap (λ b. if (b && leb (span x) best.length) then some (record { number = number; length = span x }) else some best) (sym e)
 
   pub turn_before : (best : Option Best) → position < start → best ≡ turn position number best x
   turn_before best less = not_covering best (covers_is false (ap (λ b. b && ltb position end) (lt-leb start position less)))
@@ -47,18 +47,18 @@ module _ (position number start end : ℕ) (x : ExpressionInfo) (is_start : star
 
       pub turn_first : found (end - start) ≡ turn position number none x
       unfolding turn better
-      turn_first = ap found its_span ∙ ap (λ b. when b then found (span x) else none) (sym covering)
+      turn_first = ap found its_span ∙ ap (λ b. if b then found (span x) else none) (sym covering)
 
       pub turn_longer : (best : Best) → best.length < end - start → some best ≡ turn position number (some best) x
       unfolding turn better
       turn_longer best less =
-          ap₂ (λ b c. when (b && c) then found (span x) else some best) (sym covering) (sym (lt-leb (span x) best.length (subst (λ n. best.length < n) its_span less)))
+          ap₂ (λ b c. if (b && c) then found (span x) else some best) (sym covering) (sym (lt-leb (span x) best.length (subst (λ n. best.length < n) its_span less)))
 
       pub turn_shorter : (best : Best) → end - start ≤ best.length → found (end - start) ≡ turn position number (some best) x
       unfolding turn better
       turn_shorter best least =
           ap found its_span
-          ∙ ap₂ (λ b c. when (b && c) then found (span x) else some best) (sym covering) (sym (le-leb (span x) best.length (subst (λ n. n ≤ best.length) its_span least)))
+          ∙ ap₂ (λ b c. if (b && c) then found (span x) else some best) (sym covering) (sym (le-leb (span x) best.length (subst (λ n. n ≤ best.length) its_span least)))
 
 -- ------------------------------------------------------------------ the run
 

@@ -5,7 +5,8 @@ use Prim.Native.Nat.{ℕ, zero, suc, ◌+◌, ◌-◌, ◌≤◌, ◌<◌}
 use native.Mathlib.Nat.{add-zero, zero-add}
 use native.Mathlib.Omega.{arith}
 use mathlib.Core.Option.{Option, none, some}
-use Rattle.model.specs.Common.{when◌then◌else◌, next, first, last}
+use Rattle.std.specs.Prelude.{if◌then◌else◌}
+use Rattle.model.specs.Common.{next, first, last}
 use Rattle.model.proofs.Search.{last_append}
 use Rattle.records.specs.Layout.{each}
 use Rattle.records.proofs.Lists.{each_snoc, each_length, each_unroll, each_ended, each_begun}
@@ -14,12 +15,12 @@ use Rattle.records.proofs.Lists.{each_snoc, each_length, each_unroll, each_ended
 
 module _ {A : Type 0} (test : A → Bool) (row : ℕ → A) where
   last_turn : (from n : ℕ) (b : Bool) → 0 < n → test (row (from + (n - 1))) ≡ b
-      → last test (each row from n) ≡ (when b then some (n - 1) else last test (each row from (n - 1)))
+      → last test (each row from n) ≡ (if b then some (n - 1) else last test (each row from (n - 1)))
   last_turn from n b h e =
       ap (λ k. last test (each row from k)) (one_more n h)
       ∙ ap (last test) (each_snoc row from (n - 1))
       ∙ last_append test (each row from (n - 1)) (row (from + (n - 1)))
-      ∙ ap₂ (λ b k. when b then some k else last test (each row from (n - 1))) e (each_length row from (n - 1))
+      ∙ ap₂ (λ b k. if b then some k else last test (each row from (n - 1))) e (each_length row from (n - 1))
     where
       one_more : (n : ℕ) → 0 < n → n ≡ suc (n - 1)
       one_more n h = omega arith
@@ -67,11 +68,11 @@ module _ {A : Type 0} (test : A → Bool) (row : ℕ → A) where
       over i n = omega arith
 
   first_turn : (from count i : ℕ) (b : Bool) → i < count → test (row (from + i)) ≡ b
-      → first_from test row from count i ≡ shifted i (when b then some zero else next (first test (each row (from + (i + 1)) (count - (i + 1)))))
+      → first_from test row from count i ≡ shifted i (if b then some zero else next (first test (each row (from + (i + 1)) (count - (i + 1)))))
   unfolding first_from first
   first_turn from count i b h e =
       ap (λ l. shifted i (first test l)) (each_unroll row from count i h)
-      ∙ ap (λ b. shifted i (when b then some zero else next (first test (each row (from + (i + 1)) (count - (i + 1)))))) e
+      ∙ ap (λ b. shifted i (if b then some zero else next (first test (each row (from + (i + 1)) (count - (i + 1)))))) e
 
   pub first_hit : (from count i : ℕ) (b : Bool) → i < count → b ≡ test (row (from + i)) → b ≡ true → first_from test row from count i ≡ some i
   unfolding shifted

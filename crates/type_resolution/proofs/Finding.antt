@@ -5,7 +5,7 @@ use Prim.Native.Nat.{ℕ}
 use native.Mathlib.Omega.{arith}
 use mathlib.Core.List.{List}
 use mathlib.Core.Option.{Option, none, some}
-use Rattle.model.specs.Common.{when◌then◌else◌}
+use Rattle.std.specs.Prelude.{if◌then◌else◌}
 use Rattle.model.specs.Records.{Module}
 use Rattle.model.specs.Lookups.{type_expr_at, definition_at, expression_at}
 use Rattle.records.specs.Layout.{index_of, module_row}
@@ -30,14 +30,14 @@ use Rattle.type_resolution.proofs.Running.{some_runs, none_runs, answers, knows_
 
 module _ {X A R : Type 0} {meaning : R → Table → Outcome A} {file words : List ℕ} {depth : ℕ} {T : List ℕ} {O : List (List ℕ)} {T' : List ℕ} {O' : List (List ℕ)} {r : R}
     (at : Module → Option X) (q : Program A) (f : Module → X → Program A) where
-  found_by : (there : Bool) (the_module : Module) (o : Option Module) (v : X) → o ≡ (when there then some the_module else none)
-      → some v ≡ (when there then at the_module else none) → Runs meaning file words (f the_module v) depth T O T' O' r
+  found_by : (there : Bool) (the_module : Module) (o : Option Module) (v : X) → o ≡ (if there then some the_module else none)
+      → some v ≡ (if there then at the_module else none) → Runs meaning file words (f the_module v) depth T O T' O' r
       → Runs meaning file words (let_some o q (λ home. let_some (at home) q (f home))) depth T O T' O' r
   found_by true the_module o v e h a = some_runs o q (λ home. let_some (at home) q (f home)) e (some_runs (at the_module) q (f the_module) (sym h) a)
   found_by false the_module o v e h a = let z : ◌≡◌ {A = ℕ} 0 1 = cc in absurd (omega arith)
 
-  absent_by : (there : Bool) (the_module : Module) (o : Option Module) → o ≡ (when there then some the_module else none)
-      → none ≡ (when there then at the_module else none) → Runs meaning file words q depth T O T' O' r
+  absent_by : (there : Bool) (the_module : Module) (o : Option Module) → o ≡ (if there then some the_module else none)
+      → none ≡ (if there then at the_module else none) → Runs meaning file words q depth T O T' O' r
       → Runs meaning file words (let_some o q (λ home. let_some (at home) q (f home))) depth T O T' O' r
   absent_by true the_module o e h a = some_runs o q (λ home. let_some (at home) q (f home)) e (none_runs (at the_module) q (f the_module) (sym h) a)
   absent_by false the_module o e h a = none_runs o q (λ home. let_some (at home) q (f home)) e a

@@ -6,7 +6,8 @@ use native.Mathlib.Omega.{arith}
 use mathlib.Core.List.{List, [], ◌∷◌}
 use mathlib.Core.Option.{none, some}
 use lib.ListN.{length, get_elem?}
-use Rattle.model.specs.Common.{when◌then◌else◌, total}
+use Rattle.std.specs.Prelude.{if◌then◌else◌}
+use Rattle.model.specs.Common.{total}
 use Rattle.model.specs.Records as model
 use Rattle.model.specs.Lookups.{module_at}
 use Rattle.model.specs.Limits.{item_count, module_items, type_expr_items, kind_items, node_items, definition_items, expression_items}
@@ -40,8 +41,8 @@ at_most_total count (y ∷ l) (suc i) x e = let rest = at_most_total count l i x
 module _ {X : Type 0} (file words : List ℕ) (few : item_count (index_of file words) ≤ 2048) (m : ℕ) (records : model.Module → List X) (count : X → ℕ)
     (counted : (home : model.Module) → total count (records home) ≤ module_items home) where
   -- the items of a record that a module has
-  short_by : (there : Bool) (n : ℕ) (x : X) → module_at (index_of file words) m ≡ (when there then some (module_row file words m) else none)
-      → some x ≡ (when there then get_elem? (records (module_row file words m)) n else none) → count x ≤ 2048
+  short_by : (there : Bool) (n : ℕ) (x : X) → module_at (index_of file words) m ≡ (if there then some (module_row file words m) else none)
+      → some x ≡ (if there then get_elem? (records (module_row file words m)) n else none) → count x ≤ 2048
   unfolding item_count
   short_by false n x e h = let z : ◌≡◌ {A = ℕ} 0 1 = cc in absurd (omega arith)
   short_by true n x e h =

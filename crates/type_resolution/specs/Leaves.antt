@@ -2,7 +2,8 @@
 -- Definitions only.
 use Rattle.std.specs.Prelude.{◌≡◌, ℕ, ◌<◌, Bool, List}
 use Rattle.std.proofs.Math.Option.{Option, none, some}
-use Rattle.model.specs.Common.{when◌then◌else◌, let_some}
+use Rattle.std.specs.Prelude.{if◌then◌else◌}
+use Rattle.model.specs.Common.{let_some}
 use Rattle.model.specs.Lookups.{module_at, type_expr_at, definition_at, expression_at}
 use Rattle.records.specs.Layout.{index_of, module_row}
 use Rattle.records.specs.Meaning.{found_type_expr_of, found_definition_of, found_expression_of}
@@ -24,18 +25,18 @@ use Rattle.type_resolution.specs.declared.FoundFunction.{FoundFunction}
 
 pub record TypeIn (words : List ℕ) (m t : ℕ) (r : FoundTypeExpr) : Type 0 where
   pub there : Bool
-  pub module_is : (file : List ℕ) → module_at (index_of file words) m ≡ (when there then some (module_row file words m) else none)
-  pub same : (file : List ℕ) → found_type_expr_of file words r ≡ (when there then type_expr_at (module_row file words m) t else none)
+  pub module_is : (file : List ℕ) → module_at (index_of file words) m ≡ (if there then some (module_row file words m) else none)
+  pub same : (file : List ℕ) → found_type_expr_of file words r ≡ (if there then type_expr_at (module_row file words m) t else none)
 
 pub record DefinitionIn (words : List ℕ) (m d : ℕ) (r : FoundDefinition) : Type 0 where
   pub there : Bool
-  pub module_is : (file : List ℕ) → module_at (index_of file words) m ≡ (when there then some (module_row file words m) else none)
-  pub same : (file : List ℕ) → found_definition_of file words r ≡ (when there then definition_at (module_row file words m) d else none)
+  pub module_is : (file : List ℕ) → module_at (index_of file words) m ≡ (if there then some (module_row file words m) else none)
+  pub same : (file : List ℕ) → found_definition_of file words r ≡ (if there then definition_at (module_row file words m) d else none)
 
 pub record ExpressionIn (words : List ℕ) (m e : ℕ) (r : FoundExpression) : Type 0 where
   pub there : Bool
-  pub module_is : (file : List ℕ) → module_at (index_of file words) m ≡ (when there then some (module_row file words m) else none)
-  pub same : (file : List ℕ) → found_expression_of file words r ≡ (when there then expression_at (module_row file words m) e else none)
+  pub module_is : (file : List ℕ) → module_at (index_of file words) m ≡ (if there then some (module_row file words m) else none)
+  pub same : (file : List ℕ) → found_expression_of file words r ≡ (if there then expression_at (module_row file words m) e else none)
 
 -- ------------------------------------------------------------------ kinds of definitions
 

@@ -9,7 +9,8 @@ use lib.Dec.{eqb}
 use lib.ListN.{length, get_elem?}
 use borrow.Enum.Refused.{Among}
 use denote.Enum.Declared.{tag_of}
-use Rattle.model.specs.Common.{when◌then◌else◌, let_some}
+use Rattle.std.specs.Prelude.{if◌then◌else◌}
+use Rattle.model.specs.Common.{let_some}
 use Rattle.records.specs.Layout.{item_value, numbers_at}
 use Rattle.records.proofs.Lists.{each_begun, each_unroll, each_ended}
 use Rattle.resolution.specs.Types.{Table, error, data_of, is_u32_or_felt, as_tuple, as_pointer, as_array, as_struct, as_function}
@@ -81,13 +82,13 @@ module _ {w : List ℕ} {t : ℕ} {row : Row} (r : DataRead w t row) where
   pub numeric_found : Among (0 ∷ 2 ∷ []) (tag_of the_type row) → (file : List ℕ) → Reads file w (numeric_read t) (some t)
   unfolding numeric_read numeric
   numeric_found h file = record {
-    same = ap (λ b. when b then some t else none) (sym (u32_or_felt file w row h)) ∙ ap (λ x. when is_u32_or_felt x then some t else none) (r.same file);
+    same = ap (λ b. if b then some t else none) (sym (u32_or_felt file w row h)) ∙ ap (λ x. if is_u32_or_felt x then some t else none) (r.same file);
   }
 
   pub numeric_absent : Among (1 ∷ 3 ∷ 4 ∷ 5 ∷ 6 ∷ 7 ∷ 8 ∷ 9 ∷ []) (tag_of the_type row) → (file : List ℕ) → Reads file w (numeric_read t) none
   unfolding numeric_read numeric
   numeric_absent h file = record {
-    same = ap (λ b. when b then some t else none) (sym (other_than_u32_or_felt file w row h)) ∙ ap (λ x. when is_u32_or_felt x then some t else none) (r.same file);
+    same = ap (λ b. if b then some t else none) (sym (other_than_u32_or_felt file w row h)) ∙ ap (λ x. if is_u32_or_felt x then some t else none) (r.same file);
   }
 
 -- ------------------------------------------------------------------ one read behind another
@@ -108,30 +109,30 @@ module _ (w : List ℕ) (context : Option ℕ) (count : ℕ) where
   }
 
   module _ {t : ℕ} {r : FoundList} (is : context ≡ some t) (read : TupleRead w t r) where
-    contexts_of : (file : List ℕ) → let_some (found_types_of w r) [] (λ ts. when eqb (length ts) count then ts else []) ≡ element_contexts (table_of file w) context count
+    contexts_of : (file : List ℕ) → let_some (found_types_of w r) [] (λ ts. if eqb (length ts) count then ts else []) ≡ element_contexts (table_of file w) context count
     unfolding element_contexts
     contexts_of file =
-        ap (λ o. let_some o [] (λ ts. when eqb (length ts) count then ts else [])) (read.same file) ∙ ap (λ o. element_contexts (table_of file w) o count) (sym is)
+        ap (λ o. let_some o [] (λ ts. if eqb (length ts) count then ts else [])) (read.same file) ∙ ap (λ o. element_contexts (table_of file w) o count) (sym is)
 
     pub no_tuple : r ≡ FoundList.Absent → ContextsRead w context count no_types
     no_tuple e = record {
-      same = λ file. ap (λ x. let_some (found_types_of w x) [] (λ ts. when eqb (length ts) count then ts else [])) (sym e) ∙ contexts_of file;
+      same = λ file. ap (λ x. let_some (found_types_of w x) [] (λ ts. if eqb (length ts) count then ts else [])) (sym e) ∙ contexts_of file;
       within = λ file sound. zero-le;
     }
 
     module _ {list : TypeList} (e : r ≡ FoundList.Found list) where
-      found_contexts : (file : List ℕ) → (when eqb (length (types_of w list)) count then types_of w list else []) ≡ element_contexts (table_of file w) context count
-      found_contexts file = ap (λ x. let_some (found_types_of w x) [] (λ ts. when eqb (length ts) count then ts else [])) (sym e) ∙ contexts_of file
+      found_contexts : (file : List ℕ) → (if eqb (length (types_of w list)) count then types_of w list else []) ≡ element_contexts (table_of file w) context count
+      found_contexts file = ap (λ x. let_some (found_types_of w x) [] (λ ts. if eqb (length ts) count then ts else [])) (sym e) ∙ contexts_of file
 
       pub all_contexts : length (types_of w list) ≡ count → ContextsRead w context count list
       all_contexts same = record {
-        same = λ file. ap (λ b. when b then types_of w list else []) (sym (eq-eqb _ _ same)) ∙ found_contexts file;
+        same = λ file. ap (λ b. if b then types_of w list else []) (sym (eq-eqb _ _ same)) ∙ found_contexts file;
         within = λ file sound. read.within file sound list e;
       }
 
       pub other_count : (length (types_of w list) ≡ count → ⊥) → ContextsRead w context count no_types
       other_count other = record {
-        same = λ file. ap (λ b. when b then types_of w list else []) (sym (ne_eqb _ _ other)) ∙ found_contexts file;
+        same = λ file. ap (λ b. if b then types_of w list else []) (sym (ne_eqb _ _ other)) ∙ found_contexts file;
         within = λ file sound. zero-le;
       }
 

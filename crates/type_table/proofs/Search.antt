@@ -9,7 +9,8 @@ use native.Mathlib.Numerals.{add-one}
 use native.Mathlib.Omega.{arith}
 use lib.ListN.{length, get_or, drop, drop_of_length-le}
 use lib.Seq.{drop-cons}
-use Rattle.model.specs.Common.{when◌then◌else◌, first, next, eq_numbers}
+use Rattle.std.specs.Prelude.{if◌then◌else◌}
+use Rattle.model.specs.Common.{first, next, eq_numbers}
 use Rattle.model.specs.Records.{Name}
 use Rattle.resolution.specs.TypeData.{TypeData}
 use Rattle.resolution.specs.Types.{eq_type, find_type, field_type}
@@ -21,15 +22,15 @@ first_none : {A : Type 0} (test : A → Bool) (d : A) (l : List A) → ((k : ℕ
 unfolding first
 first_none test d [] all = refl
 first_none test d (x ∷ l) all =
-    ap₂ (λ b r. when b then some zero else next r) (all zero (suc-le-suc zero-le)) (first_none test d l (λ k below. all (suc k) (suc-le-suc below)))
+    ap₂ (λ b r. if b then some zero else next r) (all zero (suc-le-suc zero-le)) (first_none test d l (λ k below. all (suc k) (suc-le-suc below)))
 
 first_at : {A : Type 0} (test : A → Bool) (d : A) (l : List A) (i : ℕ) → i < length l → test (get_or l i d) ≡ true
     → ((k : ℕ) → k < i → test (get_or l k d) ≡ false) → first test l ≡ some i
 unfolding first
 first_at test d [] i below here all = absurd (not-suc-le-zero below)
-first_at test d (x ∷ l) zero below here all = ap (λ b. when b then some zero else next (first test l)) here
+first_at test d (x ∷ l) zero below here all = ap (λ b. if b then some zero else next (first test l)) here
 first_at test d (x ∷ l) (suc i) below here all =
-    ap₂ (λ b r. when b then some zero else next r) (all zero (suc-le-suc zero-le))
+    ap₂ (λ b r. if b then some zero else next r) (all zero (suc-le-suc zero-le))
     (first_at test d l i (le_of_suc-le-suc below) here (λ k lower. all (suc k) (suc-le-suc lower)))
 
 module _ (file w : List ℕ) (row : TypeData) where
@@ -55,7 +56,7 @@ module _ (file w : List ℕ) (row : TypeData) where
 module _ (file : List ℕ) (names items : List ℕ) (name : Name) (i : ℕ) where
   taken_apart : i < length names → i < length items
       → field_type (fields_of file (drop i names) (drop i items)) name
-      ≡ (when eq_numbers (name_by file (get_or names i 0)) name then some (get_or items i 0) else field_type (fields_of file (drop (suc i) names) (drop (suc i) items)) name)
+      ≡ (if eq_numbers (name_by file (get_or names i 0)) name then some (get_or items i 0) else field_type (fields_of file (drop (suc i) names) (drop (suc i) items)) name)
   unfolding fields_of field_type
   taken_apart hn hi = ap₂ (λ x y. field_type (fields_of file x y) name) (drop-cons names i 0 hn) (drop-cons items i 0 hi)
 
@@ -63,13 +64,13 @@ module _ (file : List ℕ) (names items : List ℕ) (name : Name) (i : ℕ) wher
       → field_type (fields_of file (drop i names) (drop i items)) name ≡ some (get_or items i 0)
   field_here hn hi e =
       taken_apart hn hi
-      ∙ ap (λ b. when b then some (get_or items i 0) else field_type (fields_of file (drop (suc i) names) (drop (suc i) items)) name) e
+      ∙ ap (λ b. if b then some (get_or items i 0) else field_type (fields_of file (drop (suc i) names) (drop (suc i) items)) name) e
 
   pub field_there : i < length names → i < length items → eq_numbers (name_by file (get_or names i 0)) name ≡ false
       → field_type (fields_of file (drop i names) (drop i items)) name ≡ field_type (fields_of file (drop (i + 1) names) (drop (i + 1) items)) name
   field_there hn hi e =
       taken_apart hn hi
-      ∙ ap (λ b. when b then some (get_or items i 0) else field_type (fields_of file (drop (suc i) names) (drop (suc i) items)) name) e
+      ∙ ap (λ b. if b then some (get_or items i 0) else field_type (fields_of file (drop (suc i) names) (drop (suc i) items)) name) e
       ∙ sym (ap (λ n. field_type (fields_of file (drop n names) (drop n items)) name) (add-one i))
 
   pub field_none : length names ≤ i → field_type (fields_of file (drop i names) (drop i items)) name ≡ none

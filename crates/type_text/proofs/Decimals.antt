@@ -8,17 +8,17 @@ use native.Mathlib.Omega.{arith}
 use borrow.Author.Tests.{lt-ltb, le-ltb, ltb-true, ltb-false}
 use lib.Dec.{ltb, lit<}
 use lib.ListN.{length, length-append}
-use Rattle.model.specs.Common.{when◌then◌else◌}
+use Rattle.std.specs.Prelude.{if◌then◌else◌}
 use Rattle.resolution.specs.Answer.{decimal}
 use Rattle.resolution.proofs.Steps.{decimal_step}
 
 pub decimal_small : (n : ℕ) → n < 10 → decimal n ≡ (48 + n) ∷ []
 decimal_small n small =
-    decimal_step n ∙ ap (λ (b : Bool). when b then (48 + n) ∷ [] else decimal (n / 10) ++ ((48 + n % 10) ∷ [])) (lt-ltb n 10 small)
+    decimal_step n ∙ ap (λ (b : Bool). if b then (48 + n) ∷ [] else decimal (n / 10) ++ ((48 + n % 10) ∷ [])) (lt-ltb n 10 small)
 
 pub decimal_large : (n : ℕ) → 10 ≤ n → decimal n ≡ decimal (n / 10) ++ ((48 + n % 10) ∷ [])
 decimal_large n large =
-    decimal_step n ∙ ap (λ (b : Bool). when b then (48 + n) ∷ [] else decimal (n / 10) ++ ((48 + n % 10) ∷ [])) (le-ltb n 10 large)
+    decimal_step n ∙ ap (λ (b : Bool). if b then (48 + n) ∷ [] else decimal (n / 10) ++ ((48 + n % 10) ∷ [])) (le-ltb n 10 large)
 
 pub length_large : (n : ℕ) → 10 ≤ n → length (decimal n) ≡ length (decimal (n / 10)) + 1
 length_large n large = ap length (decimal_large n large) ∙ length-append (decimal (n / 10)) ((48 + n % 10) ∷ [])

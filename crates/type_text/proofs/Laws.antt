@@ -10,7 +10,7 @@ use borrow.Author.Tests.{le-leb, lt-leb, leb-true, leb-false}
 use lib.Dec.{leb}
 use lib.ListN.{length, take, drop, length-append, length-drop}
 use lib.Seq.{take_at, drop_at}
-use Rattle.model.specs.Common.{when◌then◌else◌}
+use Rattle.std.specs.Prelude.{if◌then◌else◌}
 use Rattle.model.specs.Refusals.{refusal_text}
 use Rattle.resolution.specs.Answer.{Verdict, max_text, text_verdict}
 use Rattle.type_text.specs.declared.TypeText.{TypeText}
@@ -37,7 +37,7 @@ module _ (text out : List ℕ) where
   unfolding text_answer text_bytes
   text_long long =
       record {
-        answer = sym (ap (λ b. when b then (when leb (length text) (length out) then Written (length text) else NoRoom) else TooLong) (lt-leb (length text) max_text long));
+        answer = sym (ap (λ b. if b then (if leb (length text) (length out) then Written (length text) else NoRoom) else TooLong) (lt-leb (length text) max_text long));
         bytes = refl;
       }
 
@@ -45,7 +45,7 @@ module _ (text out : List ℕ) where
   unfolding text_answer text_bytes
   text_no_room small short =
       record {
-        answer = sym (ap₂ (λ a b. when a then (when b then Written (length text) else NoRoom) else TooLong) (le-leb (length text) max_text small) (lt-leb (length text) (length out) short));
+        answer = sym (ap₂ (λ a b. if a then (if b then Written (length text) else NoRoom) else TooLong) (le-leb (length text) max_text small) (lt-leb (length text) (length out) short));
         bytes = refl;
       }
 
@@ -55,7 +55,7 @@ module _ (text out : List ℕ) where
       record {
         answer =
             ap Written (wrote.next ∙ zero-add (length text))
-            ∙ sym (ap₂ (λ a b. when a then (when b then Written (length text) else NoRoom) else TooLong) (le-leb (length text) max_text small) (le-leb (length text) (length out) fits));
+            ∙ sym (ap₂ (λ a b. if a then (if b then Written (length text) else NoRoom) else TooLong) (le-leb (length text) max_text small) (le-leb (length text) (length out) fits));
         bytes = wrote.bytes ∙ put_start out text;
       }
 
@@ -76,7 +76,7 @@ Said text out out' TooLong = (max_text < length text) × (out' ≡ out)
 Said text out out' NoRoom = (length text ≤ max_text) × (length out < length text) × (out' ≡ out)
 
 said : (text out out' : List ℕ) (a b : Bool) → leb (length text) max_text ≡ a → leb (length text) (length out) ≡ b
-    → out' ≡ text_bytes (when a then (when b then Written (length text) else NoRoom) else TooLong) text out → Said text out out' (when a then (when b then Written (length text) else NoRoom) else TooLong)
+    → out' ≡ text_bytes (if a then (if b then Written (length text) else NoRoom) else TooLong) text out → Said text out out' (if a then (if b then Written (length text) else NoRoom) else TooLong)
 unfolding text_bytes
 said text out out' true true small fits e =
     record {
@@ -124,8 +124,8 @@ module _ {text out out' : List ℕ} {r : TypeText} (promised : WritesText text o
 
 pub verdict_typed : (text : List ℕ) → length text ≤ max_text → text_verdict text ≡ Verdict.typed text
 unfolding text_verdict
-verdict_typed text small = ap (λ b. when b then Verdict.typed text else Verdict.refused refusal_text) (le-leb (length text) max_text small)
+verdict_typed text small = ap (λ b. if b then Verdict.typed text else Verdict.refused refusal_text) (le-leb (length text) max_text small)
 
 pub verdict_refused : (text : List ℕ) → max_text < length text → text_verdict text ≡ Verdict.refused refusal_text
 unfolding text_verdict
-verdict_refused text long = ap (λ b. when b then Verdict.typed text else Verdict.refused refusal_text) (lt-leb (length text) max_text long)
+verdict_refused text long = ap (λ b. if b then Verdict.typed text else Verdict.refused refusal_text) (lt-leb (length text) max_text long)

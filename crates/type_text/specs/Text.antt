@@ -1,6 +1,7 @@
 -- What is written of a type's text. Definitions only; assumes nothing.
 use Rattle.std.specs.Prelude.{ℕ, ◌+◌, ◌≤◌, ◌≡◌, List, [], ◌∷◌, ◌++◌, leb, length, take, drop}
-use Rattle.model.specs.Common.{when◌then◌else◌, bytes}
+use Rattle.std.specs.Prelude.{if◌then◌else◌}
+use Rattle.model.specs.Common.{bytes}
 use Rattle.resolution.specs.Answer.{decimal, comma_texts, max_text}
 use Rattle.type_text.specs.declared.TypeText.{TypeText}
 use Rattle.type_text.specs.declared.TypeText.TheVariants.{Written, TooLong, NoRoom}
@@ -39,7 +40,7 @@ pub record Wrote (text : List ℕ) (at : ℕ) (out out' : List ℕ) (r : ℕ) : 
 
 -- 10: "a text over 4,096 bytes"
 unfoldable pub text_answer : List ℕ → ℕ → TypeText
-text_answer text room = when leb (length text) max_text then (when leb (length text) room then Written (length text) else NoRoom) else TooLong
+text_answer text room = if leb (length text) max_text then (if leb (length text) room then Written (length text) else NoRoom) else TooLong
 
 unfoldable pub text_bytes : TypeText → List ℕ → List ℕ → List ℕ
 text_bytes (Written n) text out = text ++ drop (length text) out

@@ -5,7 +5,7 @@ use Prim.Native.Nat.{ℕ}
 use mathlib.Core.List.{List}
 use mathlib.Core.Option.{Option, none, some}
 use native.Mathlib.Omega.{arith}
-use Rattle.model.specs.Common.{when◌then◌else◌}
+use Rattle.std.specs.Prelude.{if◌then◌else◌}
 use Rattle.model.specs.Records.{Name, TypeExpr, BinaryOp, Definition, ExpressionInfo, Module, Index}
 use Rattle.model.specs.Lookups.{
   module_at,
@@ -212,11 +212,11 @@ module _ (the_module : Module) (parent : ℕ) (field : Name) where
 -- ------------------------------------------------------------------ definitions behind a name
 
 -- a module that was asked for by its number
-pub module_past : (o : Option Module) (x : Module) (b : Bool) → o ≡ (when b then some x else none) → not b ≡ true → o ≡ none
+pub module_past : (o : Option Module) (x : Module) (b : Bool) → o ≡ (if b then some x else none) → not b ≡ true → o ≡ none
 module_past o x true e h = let z : ◌≡◌ {A = ℕ} 0 1 = cc in absurd (omega arith)
 module_past o x false e h = e
 
-pub module_there : (o : Option Module) (x : Module) (b : Bool) → o ≡ (when b then some x else none) → not b ≡ false → o ≡ some x
+pub module_there : (o : Option Module) (x : Module) (b : Bool) → o ≡ (if b then some x else none) → not b ≡ false → o ≡ some x
 module_there o x true e h = e
 module_there o x false e h = let z : ◌≡◌ {A = ℕ} 0 1 = cc in absurd (omega arith)
 

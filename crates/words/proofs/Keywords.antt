@@ -8,7 +8,8 @@ use native.Mathlib.Omega.{arith}
 use native.Mathlib.Nat.{not-suc-le-zero, le_of_suc-le-suc}
 use lib.ListN.{length, take, get_elem?, length-take}
 use Rattle.format.specs.Load.{first_lines, first_line_length, version_of}
-use Rattle.model.specs.Common.{Text, bytes, let_some, when◌then◌else◌, first, eq_numbers}
+use Rattle.std.specs.Prelude.{if◌then◌else◌}
+use Rattle.model.specs.Common.{Text, bytes, let_some, first, eq_numbers}
 use Rattle.format.specs.Words.{Keyword, is_keyword, place_in, word_at, word_in}
 use Rattle.words.specs.declared.Found.{Found}
 use Rattle.words.specs.Packed.{candidate_place, found_is}
@@ -65,7 +66,7 @@ version_short file h = rw (other_length (begin file) (bytes "index\t1\n") differ
     differs e = omega (arith, length-take 8 file, e)
 
 -- there is one first line
-pub version_by : (file : Text) (b : Bool) → b ≡ eq_numbers (begin file) (bytes "index\t1\n") → (when b then some 1 else none) ≡ version_of file
+pub version_by : (file : Text) (b : Bool) → b ≡ eq_numbers (begin file) (bytes "index\t1\n") → (if b then some 1 else none) ≡ version_of file
 unfolding version_of place_in first is_keyword word_at
-version_by file true e = ap (λ b. let_some (when b then some 0 else none) none λ n. some (word_at first_lines 0 n)) e
-version_by file false e = ap (λ b. let_some (when b then some 0 else none) none λ n. some (word_at first_lines 0 n)) e
+version_by file true e = ap (λ b. let_some (if b then some 0 else none) none λ n. some (word_at first_lines 0 n)) e
+version_by file false e = ap (λ b. let_some (if b then some 0 else none) none λ n. some (word_at first_lines 0 n)) e

@@ -10,7 +10,8 @@ use native.Mathlib.Omega.{arith}
 use lib.Dec.{eqb, leb}
 use lib.ListN.{length, take, drop, get_or, length-drop, drop_of_length-le}
 use borrow.Author.Tests.{le-leb, lt-leb, eqb-true, leb-true}
-use Rattle.model.specs.Common.{Text, when◌then◌else◌, next, first, eq_numbers}
+use Rattle.std.specs.Prelude.{if◌then◌else◌}
+use Rattle.model.specs.Common.{Text, next, first, eq_numbers}
 use Rattle.model.proofs.Tests.{and_left, and_right, eq_numbers_sound, eq_numbers_self}
 use Rattle.format.specs.Words.{Keyword, is_keyword, place_in}
 use Rattle.words.specs.Packed.{word_behind, cell_word, hash_of, candidate, place_if, candidate_place}
@@ -50,18 +51,18 @@ module _ (field table map : Text) (h k : ℕ) (is_h : h ≡ hash_of field) (is_k
 
   -- a cell that begins in the table, with the length n
   module _ (n : ℕ) (is_n : n ≡ get_or table (k * 9) 0) (inside : k * 9 < length table) where
-    opened : (b : Bool) → leb n (length (drop (k * 9 + 1) table)) ≡ b → cell_word table k ≡ (when b then some (take n (drop (k * 9 + 1) table)) else none)
+    opened : (b : Bool) → leb n (length (drop (k * 9 + 1) table)) ≡ b → cell_word table k ≡ (if b then some (take n (drop (k * 9 + 1) table)) else none)
     opened b e =
         ap word_behind (here table (k * 9) inside ∙ ap (λ m. m ∷ drop (k * 9 + 1) table) (sym is_n))
-        ∙ ap (λ q. when q then some (take n (drop (k * 9 + 1) table)) else none) e
+        ∙ ap (λ q. if q then some (take n (drop (k * 9 + 1) table)) else none) e
 
     pub place_cut : length table - (k * 9 + 1) < n → none ≡ candidate_place table map field
     place_cut less = by_cell none (opened false (lt-leb n _ (omega (arith, length-drop (k * 9 + 1) table))))
 
     pub place_same : n ≤ length table - (k * 9 + 1) → (b : Bool) → b ≡ eq_numbers field (take n (drop (k * 9 + 1) table))
-        → (when b then some k else none) ≡ candidate_place table map field
+        → (if b then some k else none) ≡ candidate_place table map field
     place_same fits b e =
-        ap (λ q. when q then some k else none) e ∙ by_cell _ (opened true (le-leb n _ (omega (arith, length-drop (k * 9 + 1) table))))
+        ap (λ q. if q then some k else none) e ∙ by_cell _ (opened true (le-leb n _ (omega (arith, length-drop (k * 9 + 1) table))))
 
 -- ------------------------------------------------------------------ a map that is right for a table
 
@@ -87,7 +88,7 @@ placed : (field : Text) (k j : ℕ) (word : Option Text) → place_if field j wo
 placed field k j none e = let z : ◌≡◌ {A = ℕ} 0 1 = cc in absurd (omega arith)
 placed field k j (some w) e = by (eq_numbers field w) refl e
   where
-    by : (b : Bool) → eq_numbers field w ≡ b → (when b then some j else none) ≡ some k → (j ≡ k) × (some w ≡ some field)
+    by : (b : Bool) → eq_numbers field w ≡ b → (if b then some j else none) ≡ some k → (j ≡ k) × (some w ≡ some field)
     by true q f = (cc, ap some (sym (eq_numbers_sound field w q)))
     by false q f = let z : ◌≡◌ {A = ℕ} 0 1 = cc in absurd (omega arith)
 
@@ -114,7 +115,7 @@ module _ {A : Type 0} (table map field : Text) where
   none_first k (w ∷ ws) h e = by (this_word table map k w ws h) (none_first (suc k) ws (other_words table map k w ws h) e) (eq_numbers field w.text) refl
     where
       by : candidate_place table map w.text ≡ some k → place_in ws field ≡ none → (b : Bool) → eq_numbers field w.text ≡ b
-          → (when b then some 0 else next (place_in ws field)) ≡ none
+          → (if b then some 0 else next (place_in ws field)) ≡ none
       by this rest true q = let z : ◌≡◌ {A = ℕ} 0 1 = cc (ap (candidate_place table map) (eq_numbers_sound field w.text q)) in absurd (omega arith)
       by this rest false q = ap next rest
 
@@ -130,7 +131,7 @@ module _ {A : Type 0} (table map field : Text) where
     where
       by : candidate_place table map w.text ≡ some k → ((j : ℕ) → candidate_place table map field ≡ some (suc k + j) → place_in ws field ≡ some j)
           → (b : Bool) → eq_numbers field w.text ≡ b → (i : ℕ) → candidate_place table map field ≡ some (k + i)
-          → (when b then some 0 else next (place_in ws field)) ≡ some i
+          → (if b then some 0 else next (place_in ws field)) ≡ some i
       by this rest true q i f =
           let same : k ≡ k + i = cc (ap (candidate_place table map) (eq_numbers_sound field w.text q)) in ap some (omega arith)
       by this rest false q zero f =

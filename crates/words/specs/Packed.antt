@@ -1,14 +1,15 @@
 -- A table of words as one byte string, and the one word of it that a field can be. Assumes nothing.
 use Rattle.std.specs.Prelude.{ℕ, ◌+◌, ◌-◌, ◌*◌, ◌/◌, ◌%◌, [], ◌∷◌, leb, length, take, drop, get_or}
 use Rattle.std.proofs.Math.Option.{Option, none, some}
-use Rattle.model.specs.Common.{Text, let_some, when◌then◌else◌, eq_numbers}
+use Rattle.std.specs.Prelude.{if◌then◌else◌}
+use Rattle.model.specs.Common.{Text, let_some, eq_numbers}
 use Rattle.words.specs.declared.Found.{Found}
 use Rattle.words.specs.declared.Version.{Version}
 
 -- the word that stands behind its length; none where the bytes end before it does
 abbrev pub word_behind : Text → Option Text
 word_behind [] = none
-word_behind (n ∷ t) = when leb n (length t) then some (take n t) else none
+word_behind (n ∷ t) = if leb n (length t) then some (take n t) else none
 
 -- the word at a place: a table has nine bytes for each
 abbrev pub cell_word : Text → ℕ → Option Text
@@ -24,7 +25,7 @@ candidate map field = get_or map (hash_of field) 0
 
 -- the place k, if the word there is the field
 abbrev pub place_if : Text → ℕ → Option Text → Option ℕ
-place_if field k word = let_some word none λ w. when eq_numbers field w then some k else none
+place_if field k word = let_some word none λ w. if eq_numbers field w then some k else none
 
 -- the place of the word that the field is, if the map is right for the table: that of the one word that it can be, if it is that word
 unfoldable pub candidate_place : Text → Text → Text → Option ℕ
