@@ -6,7 +6,6 @@ use Rattle.std.proofs.Math.Option.{Option, none, some}
 
 -- ------------------------------------------------------------------ choices
 
-
 -- Rust's `let Some(a) = o else { b }; f(a)`
 abbrev pub let_some {ℓ κ} : {A : Type ℓ} {B : Type κ} → Option A → B → (A → B) → B
 let_some none b f = b
