@@ -14,9 +14,11 @@ import os
 import re
 import sys
 
-ROOT = os.path.dirname(os.path.dirname(os.path.abspath(__file__)))
+from built import ROOT, crates
+
 DEFINITION = os.path.join(ROOT, "crates", "words", "specs", "Packed.antt")
-SOURCES = [os.path.join(ROOT, "crates", crate, "src", "lib.rt") for crate in ("words", "fields")]
+CRATES = ["words", "fields"]
+SOURCES = [os.path.join(ROOT, "crates", crate, "src", "lib.rt") for crate in CRATES]
 CELL, HASHES = 9, 32
 STRING = r'b"((?:[^"\\]|\\.)*)"'
 PAIR = re.compile(r"(\n\s+" + STRING + r",\n\s+)" + STRING)
@@ -111,6 +113,10 @@ def fitting_factors(tables):
 def main():
     if sys.argv[1:] not in ([], ["--check"], ["--factors"]):
         sys.exit(__doc__)
+    lacking = [crate for crate in CRATES if crate not in crates()]
+    if lacking:
+        print("word maps: crates.txt doesn't list %s; left out" % ", ".join(lacking))
+        return
     tables, factors = all_tables(), factors_of(DEFINITION)
     if sys.argv[1:] == ["--factors"]:
         for fitting in fitting_factors(tables):
