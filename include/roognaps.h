@@ -1,8 +1,8 @@
 /*
  * Roognaps: the types of a Cairo-M program, from its index file.
  *
- * The functions of the static library libexport.a, which `rt staticlib export` proves and makes
- * (x86-64). Link with `cc .. -L target/staticlib -lexport`.
+ * The functions of the static library libexport.a, which `rt lib` in the folder crates/export proves
+ * and makes (x86-64). Link with `cc .. -L crates/export/out -lexport`.
  *
  * What all of them promise, proved for any input: they read and write nothing but the buffers that
  * are lent, in the given lengths; nothing overflows; every call ends; the result and every byte of

@@ -3,13 +3,14 @@
 
 usage: tools/check_index_runs.py [PROGRAM]
 
-PROGRAM is target/bin/check_index if not said otherwise. A malformed vector has its line stored; of an accepted one the records are counted
+PROGRAM is crates/check_index/out/check_index if not said otherwise, which is built if need be; if crates.txt doesn't list the crate nothing is run. A malformed vector has its line stored; of an accepted one the records are counted
 here, line by line. Exit status 0: all equal; 1: a difference, or no program.
 """
 
 import os
 import sys
 
+from built import built
 from runs import ROOT, VECTOR_FILES, Run, compare, unescaped, vectors
 
 KINDS = [b"M", b"S", b"T", b"D", b"E", b"Q"]
@@ -60,8 +61,8 @@ def main():
     arguments = sys.argv[1:]
     if len(arguments) > 1:
         sys.exit(__doc__)
-    program = arguments[0] if arguments else os.path.join(ROOT, "target", "bin", "check_index")
-    return compare("check_index runs", [program], runs())
+    program = arguments[0] if arguments else built("check_index runs", "check_index")
+    return compare("check_index runs", [program], runs()) if program else 0
 
 
 if __name__ == "__main__":

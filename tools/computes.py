@@ -4,7 +4,7 @@
 usage: tools/computes.py             (after a definition was added, renamed or moved)
        tools/computes.py --check     (exit status 1 if a file does not name exactly the definitions that there are)
 
-A theorem by computation says `unfolding looks-up` (lookups in records), `unfolding loads` (loading a file) or `unfolding resolves` (all that
+A theorem by computation says `unfolding looks_up` (lookups in records), `unfolding loads` (loading a file) or `unfolding resolves` (all that
 `resolve` prints).
 """
 import os
@@ -12,13 +12,13 @@ import re
 import subprocess
 import sys
 
-ROOT = os.path.dirname(os.path.dirname(os.path.abspath(__file__)))
+from built import ROOT, crates
 
 # crate, the name that opens, what it opens, names of other crates' Computes, and the files (crate, module) in the order of reading
 TABLES = [
     (
         "model",
-        "looks-up",
+        "looks_up",
         "the lookups, links and counts",
         [],
         [("model", m) for m in ("Common", "Lookups", "Links", "Limits")],
@@ -27,7 +27,7 @@ TABLES = [
         "format",
         "loads",
         "loading",
-        [("model", "looks-up")],
+        [("model", "looks_up")],
         [("format", m) for m in ("Words", "Fields", "Tails", "Shapes", "Lines", "FirstPass", "LinkCheck", "Load")],
     ),
     (
@@ -45,22 +45,21 @@ def unfoldable_names(crate, module):
         return re.findall(r"^\s*unfoldable pub (?!use )(\S+)", f.read(), re.M)
 
 
-def use_line(here, crate, module, names):
-    library = "Rattle·%s·specs.specs" % crate if crate == here else "Rattle·%s.specs" % crate
-    return "use %s.%s.{%s}" % (library, module, ", ".join(names))
+def use_line(crate, module, names):
+    return "use Rattle.%s.specs.%s.{%s}" % (crate, module, ", ".join(names))
 
 
-def text_of(crate, name, what, others, files):
+def text_of(name, what, others, files):
     lines = ["-- One name that opens every definition of %s: a theorem by computation says `unfolding %s`." % (what, name)]
     lines.append("-- Written by tools/computes.py. Assumes nothing.")
     opened = []
     for other, other_name in others:
-        lines.append(use_line(crate, other, "Computes", [other_name]))
+        lines.append(use_line(other, "Computes", [other_name]))
         opened.append(other_name)
     for other, module in files:
         names = unfoldable_names(other, module)
         if names:
-            lines.append(use_line(crate, other, module, names))
+            lines.append(use_line(other, module, names))
         opened += names
     doubled = sorted({n for n in opened if opened.count(n) > 1})
     if doubled:
@@ -77,15 +76,17 @@ def opened_in(path):
 def main():
     stale = []
     for row in TABLES:
+        if row[0] not in crates():
+            print("computes: crates.txt doesn't list %s; left out" % row[0])
+            continue
         path = os.path.join(ROOT, "crates", row[0], "specs", "Computes.antt")
-        text = text_of(*row)
+        text = text_of(*row[1:])
         if "--check" not in sys.argv:
             with open(path, "w", encoding="utf-8") as f:
                 f.write(text)
+            subprocess.run(["rt", "fmt"], cwd=os.path.join(ROOT, "crates", row[0]), check=True, stdout=subprocess.DEVNULL)
         elif opened_in(path) != re.search(r"^unfolding (.*)$", text, re.M)[1].split():
             stale.append(path)
-    if "--check" not in sys.argv:
-        subprocess.run(["rt", "fmt"], cwd=ROOT, check=True, stdout=subprocess.DEVNULL)
     if stale:
         sys.exit("to be written anew by tools/computes.py: " + ", ".join(os.path.relpath(p, ROOT) for p in stale))
 

@@ -25,10 +25,10 @@ import tempfile
 
 # What the theorems name, and where it stands.
 CRATES = ['model', 'format', 'resolution']
-RESOLVE = ('Rattle·resolution.specs.Resolve', 'resolve')
-COMPUTES = ('Rattle·resolution.specs.Computes', 'resolves')
-BYTES = ('Rattle·model.specs.Common', 'bytes')
-PATHS = ('mathlib.Core.Path', '_≡_, refl')
+RESOLVE = ('Rattle.resolution.specs.Resolve', 'resolve')
+COMPUTES = ('Rattle.resolution.specs.Computes', 'resolves')
+BYTES = ('Rattle.model.specs.Common', 'bytes')
+PRELUDE = 'Rattle.std.specs.Prelude'
 
 # The crate that is checked, and what bounds one check: some 60 s and 1.6 GB. (A file of 65,536 bytes alone takes 3 GB.)
 CHECKED = 'definition_check'
@@ -134,9 +134,14 @@ def text(content, by_line):
     return '\n    ++ '.join(part(p) for p in parts(content, by_line))
 
 
+def theorem_name(pair):
+    return pair.name.replace('-', '_') + '_printed'
+
+
 def theorem(pair, by_line):
-    statement = '%s-printed :\n    %s\n    (%s)\n    ≡ %s\n' % (pair.name, RESOLVE[1], text(pair.index, by_line), text(pair.printed, by_line))
-    return '%sunfolding %s\n%s-printed = refl\n' % (statement, COMPUTES[1], pair.name)
+    name = theorem_name(pair)
+    statement = '%s :\n    %s\n    (%s)\n    ≡ %s\n' % (name, RESOLVE[1], text(pair.index, by_line), text(pair.printed, by_line))
+    return '%sunfolding %s\n%s = refl\n' % (statement, COMPUTES[1], name)
 
 
 def module_text(title, names, theorems):
@@ -147,22 +152,23 @@ def module_text(title, names, theorems):
 
 def files_module(pairs, by_line):
     theorems = [theorem(pair, by_line) for pair in pairs]
-    lists = ('mathlib.Core.List', '[], _∷_, _++_' if '∷' in ''.join(theorems) else '_++_')
-    return module_text('Index files and what the oracle printed for them, from text to text.', [PATHS, lists, BYTES, RESOLVE, COMPUTES], theorems)
+    words = [word for word in ('[]', '◌∷◌', '◌++◌') if word.strip('◌') in ''.join(theorems)]
+    prelude = (PRELUDE, ', '.join(['◌≡◌', 'refl'] + words))
+    return module_text('Index files and what the oracle printed for them, from text to text.', [prelude, BYTES, RESOLVE, COMPUTES], theorems)
 
 
 def ascii_module():
     """That a text carries each ASCII character as its number, so that the theorems speak of the files' bytes."""
     numbers = ''.join('%d ∷ ' % b for b in range(128))
     statement = 'ascii :\n    %s %s\n    ≡ %s[]\nascii = refl\n' % (BYTES[1], literal(range(128)), numbers)
-    return module_text('A text carries each ASCII character as its number.', [PATHS, ('mathlib.Core.List', '[], _∷_'), BYTES], [statement])
+    return module_text('A text carries each ASCII character as its number.', [(PRELUDE, '◌≡◌, refl, [], ◌∷◌'), BYTES], [statement])
 
 
 def names_module():
     """A theorem that holds whatever the definition says: it fails only if the names above mean nothing."""
     same = '%s (%s "")' % (RESOLVE[1], BYTES[1])
     statement = 'names : %s ≡ %s\nunfolding %s\nnames = refl\n' % (same, same, COMPUTES[1])
-    return module_text('The names that the theorems use.', [PATHS, BYTES, RESOLVE, COMPUTES], [statement])
+    return module_text('The names that the theorems use.', [(PRELUDE, '◌≡◌, refl'), BYTES, RESOLVE, COMPUTES], [statement])
 
 
 def modules_of(pairs, by_line):
@@ -190,7 +196,7 @@ def write_crate(folder, modules):
     title = 'Index files and what the oracle printed for them'
     declared = ''.join('pub mod %s\n' % name for name in modules)
     write(os.path.join(folder, 'specs', 'Lib.antt'), '-- %s. Written by definition_check.py.\n%s' % (title, declared))
-    write(os.path.join(folder, 'src', 'lib.rt'), '// %s, as theorems about the definition: no function.\n' % title)
+    write(os.path.join(folder, 'src', 'lib.rt'), '// %s, as theorems about the definition: no function.\n#![tactic(auto)]\n' % title)
 
 
 # ------------------------------------------------------------------ the check
@@ -198,7 +204,7 @@ def write_crate(folder, modules):
 def dependencies(repository):
     """The crates of the repository that the theorems stand on, each with what it depends on."""
     lines = [line.split('#')[0] for line in read_bytes(os.path.join(repository, 'crates.txt')).decode().split('\n')]
-    listed = dict((line.split(':')[0].strip(), line.split(':')[1].split()) for line in lines if ':' in line)
+    listed = dict((line.split(':')[0].split()[0], line.split(':')[1].split()) for line in lines if ':' in line)
     needed, found = list(CRATES), {}
     while needed:
         crate = needed.pop()
@@ -209,21 +215,19 @@ def dependencies(repository):
 
 
 def copy_repository(repository, folder):
-    """The crates that are needed, and what was already proved of them."""
+    """The crates that are needed, without what was built of them."""
     found = dependencies(repository)
     listed = dict(found, **{CHECKED: CRATES})
     write(os.path.join(folder, 'crates.txt'), ''.join(' '.join([crate + ':'] + listed[crate]) + '\n' for crate in listed))
     for crate in found:
-        shutil.copytree(os.path.join(repository, 'crates', crate), os.path.join(folder, 'crates', crate))
-    if os.path.isdir(os.path.join(repository, 'target', 'stamp')):
-        for proved in ('rlib', 'stamp'):
-            shutil.copytree(os.path.join(repository, 'target', proved), os.path.join(folder, 'target', proved))
+        shutil.copytree(os.path.join(repository, 'crates', crate), os.path.join(folder, 'crates', crate), ignore=shutil.ignore_patterns('out'))
 
 
 def check(folder, modules, seconds):
     """The exit status of `rt check` on a crate of these modules, and what it said; None as the status if it took too long."""
-    write_crate(os.path.join(folder, 'crates', CHECKED), modules)
-    process = subprocess.Popen(['rt', 'check', CHECKED], cwd=folder, stdout=subprocess.PIPE, stderr=subprocess.STDOUT, start_new_session=True)
+    crate = os.path.join(folder, 'crates', CHECKED)
+    write_crate(crate, modules)
+    process = subprocess.Popen(['rt', 'check'], cwd=crate, stdout=subprocess.PIPE, stderr=subprocess.STDOUT, start_new_session=True)
     try:
         said, _ = process.communicate(timeout=seconds)
         return process.returncode, said.decode(errors='replace')
@@ -242,7 +246,7 @@ def reason(said):
 
 def split(pairs, said):
     """Two parts of a refused batch: the files that the checker named and the rest, or else two halves."""
-    refused = [pair for pair in pairs if '`%s-printed`' % pair.name in said]
+    refused = [pair for pair in pairs if '`%s`' % theorem_name(pair) in said]
     rest = [pair for pair in pairs if pair not in refused]
     return (refused, rest) if refused and rest else (pairs[:len(pairs) // 2], pairs[len(pairs) // 2:])
 

@@ -2,7 +2,7 @@
 """Takes the examples out of the documents: index files and what is printed for them.
 
 usage: tools/doc_examples.py OUT [--oracle TYPETOOL]
-       tools/doc_examples.py --run PROGRAM
+       tools/doc_examples.py --run [PROGRAM]
 
 An example is a block that opens with ```index: the lines of an index file with `→` for a tab, a blank line, the printed lines.
 
@@ -10,13 +10,16 @@ In the first form those of the documents whose examples are theorems (crate orac
 OUT/docs-N.index and OUT/docs-N.printed. With --oracle each file is also given to the oracle's program, and a difference is an error, except
 in a block that opens with ```index rust-differs.
 
-In the second form every example of every document is given to PROGRAM (target/bin/resolve) on its standard input, and a difference in what it
-prints is an error. README's first example also stands as the file that its first command reads; another content of that file is an error.
+In the second form every example of every document is given to PROGRAM on its standard input, and a difference in what it prints is an error.
+PROGRAM is crates/resolve/out/resolve if not said otherwise, which is built if need be; if crates.txt doesn't list the crate nothing is run. README's first
+example also stands as the file that its first command reads; another content of that file is an error.
 """
 import os
 import re
 import subprocess
 import sys
+
+from built import built
 
 ROOT = os.path.dirname(os.path.dirname(os.path.abspath(__file__)))
 # The documents whose examples the crate oracle_sample has; those of the others are only run.
@@ -92,8 +95,10 @@ def write(folder, oracle):
 
 
 def main(arguments):
-    if len(arguments) == 2 and arguments[0] == "--run":
-        run(arguments[1])
+    if len(arguments) in (1, 2) and arguments[0] == "--run":
+        program = arguments[1] if len(arguments) == 2 else built("documents", "resolve")
+        if program:
+            run(program)
     elif len(arguments) == 1 and not arguments[0].startswith("-"):
         write(arguments[0], None)
     elif len(arguments) == 3 and arguments[1] == "--oracle":

@@ -10,21 +10,16 @@ grey, code is white, programs are framed twice. With --check nothing is written:
 import os
 import sys
 
-ROOT = os.path.join(os.path.dirname(os.path.abspath(__file__)), "..")
+from built import ROOT, crates, is_program
+
 DRAWING = os.path.join(ROOT, "docs", "crates.svg")
 DEFINITIONS = ("model", "format", "resolution", "oracle_sample", "secrecy_examples")
 WIDE, HIGH, GAP_X, GAP_Y, EDGE = 118, 30, 22, 46, 20
 
 
-def crates():
+def own_crates():
     """Each crate with the crates of this repository that it depends on."""
-    needs = {}
-    with open(os.path.join(ROOT, "crates.txt"), encoding="utf-8") as lines:
-        for line in lines:
-            line = line.split("#")[0].strip()
-            if line:
-                name, deps = line.split(":")
-                needs[name] = deps.split()
+    needs = crates()
     return {name: [d for d in deps if d in needs] for name, deps in needs.items()}
 
 
@@ -71,12 +66,8 @@ def places(near, level):
     return rows
 
 
-def is_program(name):
-    return os.path.exists(os.path.join(ROOT, "crates", name, "src", "main.rt"))
-
-
 def draw():
-    near = nearest(crates())
+    near = nearest(own_crates())
     level = levels(near)
     rows = places(near, level)
     width = 2 * EDGE + max(len(row) for row in rows) * (WIDE + GAP_X) - GAP_X

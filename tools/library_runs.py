@@ -5,8 +5,8 @@ and the tests of the lookups, on the library that is for the benchmark alone.
 
 usage: tools/library_runs.py
 
-The libraries are target/staticlib/libexport.a and liblookup_bench.a, which `rt staticlib export` and `rt staticlib lookup_bench` make; where
-EXPORT_LIB names a folder (absolute), those in it.
+The libraries are crates/export/out/libexport.a and crates/lookup_bench/out/liblookup_bench.a, which `rt lib` makes in the crate's folder and this tool has it
+make if need be; where EXPORT_LIB names a folder (absolute), those in it. A crate that crates.txt doesn't list is left out with one line.
 What the machine lacks (rt, objdump, objcopy, cc, c++, valgrind, cargo, the original sources) is left out with one line. Exit status 0: everything as owed;
 1: a difference or a failure.
 """
@@ -18,19 +18,20 @@ import shutil
 import subprocess
 import sys
 
+from built import built
 from runs import ROOT, VECTOR_FILES, vectors
 
 MADE = os.path.join(ROOT, "target", "library_runs")
-# The crates whose static libraries are made: the one for users, and the one for the benchmark.
-LIBRARIES = ("export", "lookup_bench")
 EXPORTED = {"roognaps_load", "roognaps_answer", "roognaps_answer_from"}
 WARNINGS = ["-Wall", "-Wextra", "-Werror", "-pedantic"]
 C11 = [*WARNINGS, "-std=c11", "-g"]
 CPP11 = [*WARNINGS, "-std=c++11", "-x", "c++"]
 # Of the malformed vectors one of so many is run as a process of its own; all are replayed in one.
 MALFORMED_STEP = 10
-# A frame that is larger goes down page by page and touches each, so that too little stack meets the guard page.
+# A frame that is larger than a page goes down by steps and touches each, so that too little stack meets the guard page. The compiler's step is shorter
+# than a page.
 PAGE = 4096
+STEP = 3072
 TOUCHED = re.compile(r"movq +\$0x0,\(%rsp\)$")
 # The stack lowered in another way, of which the length isn't seen.
 OTHERWISE = re.compile(r"\t(sub +%\w+,%rsp|lea +-0x[0-9a-f]+\(%rsp\),%rsp|add +\$0xf{4,}[0-9a-f]*,%rsp)")
@@ -46,22 +47,13 @@ def run(command, **options):
     return subprocess.run(command, stdout=subprocess.PIPE, stderr=subprocess.STDOUT, text=True, check=False, **options)
 
 
-def libraries():
-    """The folder of the static libraries; none if the one for users can't be had here. Ends the run where making one fails."""
+def library(name):
+    """The static library of a crate; none if it can't be had here. Ends the run where making it fails."""
     folder = os.environ.get("EXPORT_LIB")
     if folder is None:
-        folder = os.path.join(ROOT, "target", "staticlib")
-        for name in LIBRARIES if shutil.which("rt") else ():
-            made = run(["rt", "staticlib", name], cwd=ROOT)
-            if made.returncode != 0:
-                print(made.stdout)
-                say(f"`rt staticlib {name}` failed")
-                sys.exit(1)
-    return folder if has_library(folder, "export") else None
-
-
-def has_library(folder, name):
-    return os.path.exists(os.path.join(folder, f"lib{name}.a"))
+        return built("library runs", name)
+    path = os.path.join(folder, f"lib{name}.a")
+    return path if os.path.exists(path) else None
 
 
 def steps_down(listing):
@@ -100,13 +92,13 @@ def exported_functions(symbols):
 
 def large_frames(listing):
     """The library touches each page of a frame: what makes too little stack an end of the process and nothing worse."""
-    pages = [(function, size, then) for function, size, then in steps_down(listing) if size >= PAGE]
+    pages = [(function, size, then) for function, size, then in steps_down(listing) if size >= STEP]
     wrong = [f"{function} goes down {size} bytes, then {then}" for function, size, then in pages if size > PAGE or not TOUCHED.match(then)]
     wrong += [line.strip() for line in listing.splitlines() if OTHERWISE.search(line)]
     for said in wrong:
         print(said)
     functions = len({function for function, _, _ in pages})
-    say(f"{functions} functions have frames above {PAGE} bytes; {'not each' if wrong else 'each'} page is touched")
+    say(f"{functions} functions have frames above {STEP} bytes; {'not each' if wrong else 'each'} page is touched")
     # The resolution functions have such frames: none found means that the listing wasn't understood.
     return functions > 0 and not wrong
 
@@ -478,7 +470,7 @@ def shown_c(folder):
     """The commands of docs/USING.md that compile and run the example in C."""
     if not shutil.which("cc"):
         return True
-    compiling = [command.replace("-Ltarget/staticlib", "-L" + folder) for command, _ in commands() if command.startswith("cc ")]
+    compiling = [command.replace("-Lcrates/export/out", "-L" + folder) for command, _ in commands() if command.startswith("cc ")]
     running = [(command, owed) for command, owed in commands() if command.startswith("target/answer ")]
     for command in compiling:
         made = run(["sh", "-c", command], cwd=ROOT)
@@ -495,11 +487,11 @@ def documented(*features):
     return cargo("the crate's documentation", *words, RUSTDOCFLAGS="-D warnings") is not None
 
 
-def linted(folder):
+def linted(has_lookups):
     if not at_hand("cargo", "clippy"):
         say("cargo clippy isn't at hand; the lint is left out")
         return True
-    bench = ["-p", "bench"] if has_library(folder, "lookup_bench") else []
+    bench = ["-p", "bench"] if has_lookups else []
     packages = ["-p", "roognaps", "-p", "fuzz", "-p", "typetool", *bench, "--features", "roognaps/export,typetool/library"]
     return cargo("the lint", "clippy", "--offline", *packages, "--all-targets", "--", "-D", "warnings") is not None
 
@@ -526,28 +518,24 @@ def fuzz_target():
     return all(counts)
 
 
-def lookups(folder):
-    if not has_library(folder, "lookup_bench"):
-        say("liblookup_bench.a isn't there; the tests of the lookups are left out")
-        return True
-    return tests("bench")
-
-
 def rust_crate(folder):
-    tested = tests("roognaps", "--features", "export") and lookups(folder)
-    return tested and documented() and linted(folder) and example("moved", "--example", "moved") and with_originals(folder) and fuzz_target()
+    has_lookups = library("lookup_bench") is not None
+    if not has_lookups:
+        say("liblookup_bench.a isn't there; the tests of the lookups are left out")
+    tested = tests("roognaps", "--features", "export") and (tests("bench") if has_lookups else True)
+    return tested and documented() and linted(has_lookups) and example("moved", "--example", "moved") and with_originals(folder) and fuzz_target()
 
 
 def main():
     os.makedirs(MADE, exist_ok=True)
     well = versions()
-    folder = libraries()
-    if folder is None and "EXPORT_LIB" in os.environ:
+    exported = library("export")
+    if exported is None and "EXPORT_LIB" in os.environ:
         say("EXPORT_LIB names a folder that doesn't have libexport.a")
         return 1
-    if folder is None:
-        say("the static library isn't there, and rt isn't at hand to make it; left out")
+    if exported is None:
         return 0 if well else 1
+    folder = os.path.dirname(exported)
     well = compiled_library(folder) and well
     well = header_in_cpp() and well
     well = shown_calls() and well

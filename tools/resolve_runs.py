@@ -4,13 +4,14 @@ that are made here, and compares what it prints.
 
 usage: tools/resolve_runs.py [--write DIR] [PROGRAM WORD...]
 
-PROGRAM is target/bin/resolve if not said otherwise. With `rust/target/release/typetool oracle` in its place the original's text judges what
-is owed. --write only writes the files that are made here to DIR. Exit status 0: all equal; 1: a difference, or no program.
+PROGRAM is crates/resolve/out/resolve if not said otherwise, which is built if need be; if crates.txt doesn't list the crate nothing is run. With
+`rust/target/release/typetool oracle` in its place the original's text judges what is owed. --write only writes the files that are made here to DIR. Exit status 0: all equal; 1: a difference, or no program.
 """
 
 import os
 import sys
 
+from built import built
 from runs import ROOT, VECTOR_FILES, Run, compare, unescaped, vectors
 
 HEAD = "index 1\nM main\nS - module\n"
@@ -286,7 +287,8 @@ def main():
             sys.exit(__doc__)
         write(arguments[1])
         return 0
-    return compare("resolve runs", arguments or [os.path.join(ROOT, "target", "bin", "resolve")], runs())
+    command = arguments or [built("resolve runs", "resolve")]
+    return compare("resolve runs", command, runs()) if command[0] else 0
 
 
 if __name__ == "__main__":

@@ -3,14 +3,14 @@
 
 usage: tools/resolve_stack.py [PROGRAM]
 
-PROGRAM is target/bin/resolve if not said otherwise. The need is found by running it under lower and lower limits, to 4 KB; with a limit it
+PROGRAM is crates/resolve/out/resolve if not said otherwise, which is built if need be. The need is found by running it under lower and lower limits, to 4 KB; with a limit it
 either gives the lines owed or is killed.
 """
 
-import os
 import sys
 
-from resolve_runs import ROOT, made_runs
+from built import built
+from resolve_runs import made_runs
 from runs import difference
 
 MOST = 65536
@@ -32,7 +32,9 @@ def need(command, run):
 
 
 def main():
-    command = sys.argv[1:] or [os.path.join(ROOT, "target", "bin", "resolve")]
+    command = sys.argv[1:] or [built("resolve stack", "resolve")]
+    if command[0] is None:
+        return
     needs = [(need(command, run), run.name) for run in made_runs()]
     for stack, name in sorted(needs, key=lambda row: -(row[0] or MOST + 1)):
         print(f"{stack or f'over {MOST}':>8} KB  {name}")

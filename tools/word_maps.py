@@ -6,7 +6,7 @@ usage: tools/word_maps.py             (after a word was added to a table, or the
        tools/word_maps.py --factors   (the factors below 64 under which no two words of a table, those to come included, have the same hash)
 
 A table is a byte string of cells of nine bytes, a word's length, its bytes and zeros; the byte string behind it is its map. The hash is
-`hash-of` of crates/words/specs/Packed.antt, from which its three factors are read; crates/words/src/lib.rt and proofs/hash have the same. That a
+`hash_of` of crates/words/specs/Packed.antt, from which its three factors are read; crates/words/src/lib.rt and proofs/hash have the same. That a
 map leads each of the definition's words to its place is proved where the table is used, so a wrong map is refused by the check as well; this
 tool makes right ones.
 """
@@ -14,9 +14,11 @@ import os
 import re
 import sys
 
-ROOT = os.path.dirname(os.path.dirname(os.path.abspath(__file__)))
+from built import ROOT, crates
+
 DEFINITION = os.path.join(ROOT, "crates", "words", "specs", "Packed.antt")
-SOURCES = [os.path.join(ROOT, "crates", crate, "src", "lib.rt") for crate in ("words", "fields")]
+CRATES = ["words", "fields"]
+SOURCES = [os.path.join(ROOT, "crates", crate, "src", "lib.rt") for crate in CRATES]
 CELL, HASHES = 9, 32
 STRING = r'b"((?:[^"\\]|\\.)*)"'
 PAIR = re.compile(r"(\n\s+" + STRING + r",\n\s+)" + STRING)
@@ -53,9 +55,9 @@ def hash_of(word, factors):
 def factors_of(path):
     """The three factors, in the order first byte, last byte, length."""
     with open(path, encoding="utf-8") as f:
-        found = re.search(r"hash-of field = \((\d+) \* .*? \+ (\d+) \* .*? \+ (\d+) \* .*?\) / 8 % 32", f.read())
+        found = re.search(r"hash_of field = \((\d+) \* .*? \+ (\d+) \* .*? \+ (\d+) \* .*?\) / 8 % 32", f.read())
     if not found:
-        sys.exit("%s: the definition of hash-of isn't of the form that this tool reads" % os.path.relpath(path, ROOT))
+        sys.exit("%s: the definition of hash_of isn't of the form that this tool reads" % os.path.relpath(path, ROOT))
     return tuple(int(n) for n in found.groups())
 
 
@@ -111,6 +113,10 @@ def fitting_factors(tables):
 def main():
     if sys.argv[1:] not in ([], ["--check"], ["--factors"]):
         sys.exit(__doc__)
+    lacking = [crate for crate in CRATES if crate not in crates()]
+    if lacking:
+        print("word maps: crates.txt doesn't list %s; left out" % ", ".join(lacking))
+        return
     tables, factors = all_tables(), factors_of(DEFINITION)
     if sys.argv[1:] == ["--factors"]:
         for fitting in fitting_factors(tables):

@@ -1,7 +1,7 @@
 /*
  * Answers an index file.
  *
- *     cc -std=c11 -Iinclude examples/c/answer.c -Ltarget/staticlib -lexport -o answer
+ *     cc -std=c11 -Iinclude examples/c/answer.c -Lcrates/export/out -lexport -o answer
  *     ./answer FILE                  every question: prints what the program `resolve` prints.
  *                                    Without FILE standard input is read
  *     ./answer FILE QUESTION         one question: prints its first line. If it is refused, `refused`, the

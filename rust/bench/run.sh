@@ -5,8 +5,8 @@ set -eu
 cd "$(dirname "$0")/../.."
 mkdir -p target
 for name in export lookup_bench; do
-    rt staticlib $name >target/staticlib.log 2>&1 || {
-        cat target/staticlib.log
+    (cd crates/$name && rt lib) >target/$name.log 2>&1 || {
+        cat target/$name.log
         exit 1
     }
 done

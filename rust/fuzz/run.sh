@@ -11,8 +11,8 @@ cd "$(dirname "$0")/.."
 repository=$(cd .. && pwd)
 made=$repository/target/fuzz
 mkdir -p "$made/corpus"
-library=${EXPORT_LIB:-$repository/target/staticlib}
-[ -e "$library/libexport.a" ] || (cd .. && rt staticlib export)
+library=${EXPORT_LIB:-$repository/crates/export/out}
+[ -e "$library/libexport.a" ] || (cd ../crates/export && rt lib)
 
 machine=x86_64-unknown-linux-gnu
 flags="-Cpasses=sancov-module -Ccodegen-units=1"

@@ -4,7 +4,7 @@
  * seen. Before most calls it holds nothing, so that a decision by what it held is seen too; where a
  * buffer is to stay as it was, it is filled first.
  *
- *     cc -std=c11 -g -Iinclude tools/robust/vectors.c -Ltarget/staticlib -lexport -o vectors
+ *     cc -std=c11 -g -Iinclude tools/robust/vectors.c -Lcrates/export/out -lexport -o vectors
  *     valgrind --error-exitcode=9 ./vectors rust/vectors/accepted-1.txt ..
  *
  * Each vector is loaded, answered all at once and question by question, and asked with each buffer

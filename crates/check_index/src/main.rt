@@ -2,13 +2,14 @@
 // expressions, questions and items it has, or `refused`, the refusal's number and its line; parted by tabs.
 #![tactic(auto)]
 
-ghost use Rattle.std.specs.Prelude.{◌≡◌, ◌+◌, ◌≤◌, [], ◌∷◌, ◌++◌, length, take};
+ghost use Rattle.std.specs.Prelude.{◌≡◌, ◌+◌, ◌≤◌, [], ◌∷◌, ◌++◌, IfOk, length, take};
 ghost use Rattle.io.specs.Counts.{IsPrefixLen};
 ghost use Rattle.check_index.specs.Line.{counted, counts, row_total, accepted_line, refused_line, line_of, loading_line};
 ghost use Rattle.format.specs.Load.{load};
 ghost use Rattle.records.specs.Layout.{word as word_of};
 
 use loader::Loaded;
+use std::io::{Print, Read};
 
 // The word of the header that says how many items there are.
 const ITEM_COUNT: usize = 2;
@@ -160,11 +161,28 @@ fn check_file(file: &[u8], words: &mut [u32], out: &mut [u8]) -> usize
     put_line(loaded, words, out)
 }
 
-fn main() {
+// Reads standard input until the space is full or the input ends, and says how many bytes stand at its start.
+fn read_input(rt: HostRuntime, space: &mut [u8]) -> std::io::Result<usize>
+    ensures { IfOk result (λ n. n ≤ length space.new) }
+{
+    let mut input = rt.stdin();
+    let mut n = 0;
+    while n < space.len() {
+        let more = input.read(&mut space[n..])?;
+        if more == 0 {
+            break;
+        }
+        n += more;
+    }
+    Ok(n)
+}
+
+// A read or a write that fails ends the program with its error.
+fn main(rt: HostRuntime) -> std::io::Result<()> {
     let mut space = input();
-    let n = io::read_full(0, &mut space);
+    let n = read_input(rt, &mut space)?;
     let mut words = record_words();
     let mut out = io::buffer();
     let length = check_file(&space[..n], &mut words, &mut out);
-    io::write_all(1, &out[..length]);
+    rt.write_all(&out[..length])
 }

@@ -1,4 +1,4 @@
-// Answering and the check of a file for programs in other languages: `rt staticlib export` makes libexport.a. A slice is a pointer and a length
+// Answering and the check of a file for programs in other languages: `rt lib` here makes out/libexport.a. A slice is a pointer and a length
 // there, a result one number of 64 bits: its kind, a number of 16 bits and one of 32 bits.
 #![tactic(auto)]
 

@@ -1,5 +1,5 @@
-// The lookups of semantic_index.rs over record words, and `load`, for the benchmark of rust/bench alone: `rt staticlib lookup_bench` makes
-// liblookup_bench.a, which isn't shipped. (The shipped library is that of the crate `export`; no function there is given record words to look
+// The lookups of semantic_index.rs over record words, and `load`, for the benchmark of rust/bench alone: `rt lib` here makes
+// out/liblookup_bench.a, which isn't shipped. (The shipped library is that of the crate `export`; no function there is given record words to look
 // things up in.) A slice is a pointer and a length there, a name is its first byte's place in the file and its length, and a link is 0 for none,
 // else the number and 1.
 #![tactic(auto)]

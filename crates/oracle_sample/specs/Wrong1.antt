@@ -100,7 +100,7 @@ wrong_d_1_p_2_3_4_5_param_1_8_7_printed :
 unfolding resolves
 wrong_d_1_p_2_3_4_5_param_1_8_7_printed = refl
 
-wrong_e_0_2_3_0_0_plain-----lit---5-7-printed :
+wrong_e_0_2_3_0_0_plain_____lit___5_7_printed :
     resolve
     (bytes "index\t1\n"
     ++ bytes "M\tmain\n"
@@ -114,9 +114,9 @@ wrong_e_0_2_3_0_0_plain-----lit---5-7-printed :
     ++ bytes "Q\tdef\t0\t0\n")
     ≡ bytes "refused\t5\t9\n"
 unfolding resolves
-wrong_e_0_2_3_0_0_plain-----lit---5-7-printed = refl
+wrong_e_0_2_3_0_0_plain_____lit___5_7_printed = refl
 
-wrong_e_0_2_3_0_0_plain-----lit---6-6-printed :
+wrong_e_0_2_3_0_0_plain_____lit___6_6_printed :
     resolve
     (bytes "index\t1\n"
     ++ bytes "M\tmain\n"
@@ -132,9 +132,9 @@ wrong_e_0_2_3_0_0_plain-----lit---6-6-printed :
     ++ bytes "Q\tdef\t0\t0\n")
     ≡ bytes "refused\t4\t9\n"
 unfolding resolves
-wrong_e_0_2_3_0_0_plain-----lit---6-6-printed = refl
+wrong_e_0_2_3_0_0_plain_____lit___6_6_printed = refl
 
-wrong_e_0_2_3-----arg-0-1-un---0-7-7-printed :
+wrong_e_0_2_3_____arg_0_1_un___0_7_7_printed :
     resolve
     (bytes "index\t1\n"
     ++ bytes "M\tmain\n"
@@ -148,9 +148,9 @@ wrong_e_0_2_3-----arg-0-1-un---0-7-7-printed :
     ++ bytes "Q\tdef\t0\t0\n")
     ≡ bytes "refused\t5\t9\n"
 unfolding resolves
-wrong_e_0_2_3-----arg-0-1-un---0-7-7-printed = refl
+wrong_e_0_2_3_____arg_0_1_un___0_7_7_printed = refl
 
-wrong_e_0_2_3-----assign-0---bin-+-0-0-7-7-printed :
+wrong_e_0_2_3_____assign_0___bin_+_0_0_7_7_printed :
     resolve
     (bytes "index\t1\n"
     ++ bytes "M\tmain\n"
@@ -164,4 +164,4 @@ wrong_e_0_2_3-----assign-0---bin-+-0-0-7-7-printed :
     ++ bytes "Q\tdef\t0\t0\n")
     ≡ bytes "refused\t5\t9\n"
 unfolding resolves
-wrong_e_0_2_3-----assign-0---bin-+-0-0-7-7-printed = refl
+wrong_e_0_2_3_____assign_0___bin_+_0_0_7_7_printed = refl

@@ -4,7 +4,7 @@ use Rattle.model.specs.Common.{bytes}
 use Rattle.resolution.specs.Resolve.{resolve}
 use Rattle.resolution.specs.Computes.{resolves}
 
-wrong_e_0_2_3-----cond-----member-0-x-5-7-printed :
+wrong_e_0_2_3_____cond_____member_0_x_5_7_printed :
     resolve
     (bytes "index\t1\n"
     ++ bytes "M\tmain\n"
@@ -18,9 +18,9 @@ wrong_e_0_2_3-----cond-----member-0-x-5-7-printed :
     ++ bytes "Q\tdef\t0\t0\n")
     ≡ bytes "refused\t5\t9\n"
 unfolding resolves
-wrong_e_0_2_3-----cond-----member-0-x-5-7-printed = refl
+wrong_e_0_2_3_____cond_____member_0_x_5_7_printed = refl
 
-wrong_e_0_2_3-----field-0-x-ident-d-7-7-printed :
+wrong_e_0_2_3_____field_0_x_ident_d_7_7_printed :
     resolve
     (bytes "index\t1\n"
     ++ bytes "M\tmain\n"
@@ -34,9 +34,9 @@ wrong_e_0_2_3-----field-0-x-ident-d-7-7-printed :
     ++ bytes "Q\tdef\t0\t0\n")
     ≡ bytes "refused\t5\t9\n"
 unfolding resolves
-wrong_e_0_2_3-----field-0-x-ident-d-7-7-printed = refl
+wrong_e_0_2_3_____field_0_x_ident_d_7_7_printed = refl
 
-wrong_e_0_2_3-----plain-----arr-0---5-7-printed :
+wrong_e_0_2_3_____plain_____arr_0___5_7_printed :
     resolve
     (bytes "index\t1\n"
     ++ bytes "M\tmain\n"
@@ -50,9 +50,9 @@ wrong_e_0_2_3-----plain-----arr-0---5-7-printed :
     ++ bytes "Q\tdef\t0\t0\n")
     ≡ bytes "refused\t5\t9\n"
 unfolding resolves
-wrong_e_0_2_3-----plain-----arr-0---5-7-printed = refl
+wrong_e_0_2_3_____plain_____arr_0___5_7_printed = refl
 
-wrong_e_0_2_3-----plain-----cast-0-5-7-printed :
+wrong_e_0_2_3_____plain_____cast_0_5_7_printed :
     resolve
     (bytes "index\t1\n"
     ++ bytes "M\tmain\n"
@@ -66,9 +66,9 @@ wrong_e_0_2_3-----plain-----cast-0-5-7-printed :
     ++ bytes "Q\tdef\t0\t0\n")
     ≡ bytes "refused\t5\t9\n"
 unfolding resolves
-wrong_e_0_2_3-----plain-----cast-0-5-7-printed = refl
+wrong_e_0_2_3_____plain_____cast_0_5_7_printed = refl
 
-wrong_e_0_2_3-----plain-----index-0-0-5-7-printed :
+wrong_e_0_2_3_____plain_____index_0_0_5_7_printed :
     resolve
     (bytes "index\t1\n"
     ++ bytes "M\tmain\n"
@@ -82,9 +82,9 @@ wrong_e_0_2_3-----plain-----index-0-0-5-7-printed :
     ++ bytes "Q\tdef\t0\t0\n")
     ≡ bytes "refused\t5\t9\n"
 unfolding resolves
-wrong_e_0_2_3-----plain-----index-0-0-5-7-printed = refl
+wrong_e_0_2_3_____plain_____index_0_0_5_7_printed = refl
 
-wrong_e_0_2_3-----plain-----new-0-0-5-7-printed :
+wrong_e_0_2_3_____plain_____new_0_0_5_7_printed :
     resolve
     (bytes "index\t1\n"
     ++ bytes "M\tmain\n"
@@ -98,9 +98,9 @@ wrong_e_0_2_3-----plain-----new-0-0-5-7-printed :
     ++ bytes "Q\tdef\t0\t0\n")
     ≡ bytes "refused\t5\t9\n"
 unfolding resolves
-wrong_e_0_2_3-----plain-----new-0-0-5-7-printed = refl
+wrong_e_0_2_3_____plain_____new_0_0_5_7_printed = refl
 
-wrong_e_0_2_3-----plain-----paren-0-5-7-printed :
+wrong_e_0_2_3_____plain_____paren_0_5_7_printed :
     resolve
     (bytes "index\t1\n"
     ++ bytes "M\tmain\n"
@@ -114,9 +114,9 @@ wrong_e_0_2_3-----plain-----paren-0-5-7-printed :
     ++ bytes "Q\tdef\t0\t0\n")
     ≡ bytes "refused\t5\t9\n"
 unfolding resolves
-wrong_e_0_2_3-----plain-----paren-0-5-7-printed = refl
+wrong_e_0_2_3_____plain_____paren_0_5_7_printed = refl
 
-wrong_e_0_2_3-----plain-----rep-0-7-5-7-printed :
+wrong_e_0_2_3_____plain_____rep_0_7_5_7_printed :
     resolve
     (bytes "index\t1\n"
     ++ bytes "M\tmain\n"
@@ -130,9 +130,9 @@ wrong_e_0_2_3-----plain-----rep-0-7-5-7-printed :
     ++ bytes "Q\tdef\t0\t0\n")
     ≡ bytes "refused\t5\t9\n"
 unfolding resolves
-wrong_e_0_2_3-----plain-----rep-0-7-5-7-printed = refl
+wrong_e_0_2_3_____plain_____rep_0_7_5_7_printed = refl
 
-wrong_e_0_2_3-----plain-----slit-a-4-5-5-7-printed :
+wrong_e_0_2_3_____plain_____slit_a_4_5_5_7_printed :
     resolve
     (bytes "index\t1\n"
     ++ bytes "M\tmain\n"
@@ -146,9 +146,9 @@ wrong_e_0_2_3-----plain-----slit-a-4-5-5-7-printed :
     ++ bytes "Q\tdef\t0\t0\n")
     ≡ bytes "refused\t5\t9\n"
 unfolding resolves
-wrong_e_0_2_3-----plain-----slit-a-4-5-5-7-printed = refl
+wrong_e_0_2_3_____plain_____slit_a_4_5_5_7_printed = refl
 
-wrong_e_0_2_3-----plain-----tidx-0-1-5-7-printed :
+wrong_e_0_2_3_____plain_____tidx_0_1_5_7_printed :
     resolve
     (bytes "index\t1\n"
     ++ bytes "M\tmain\n"
@@ -162,4 +162,4 @@ wrong_e_0_2_3-----plain-----tidx-0-1-5-7-printed :
     ++ bytes "Q\tdef\t0\t0\n")
     ≡ bytes "refused\t5\t9\n"
 unfolding resolves
-wrong_e_0_2_3-----plain-----tidx-0-1-5-7-printed = refl
+wrong_e_0_2_3_____plain_____tidx_0_1_5_7_printed = refl

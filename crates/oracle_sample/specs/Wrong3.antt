@@ -4,7 +4,7 @@ use Rattle.model.specs.Common.{bytes}
 use Rattle.resolution.specs.Resolve.{resolve}
 use Rattle.resolution.specs.Computes.{resolves}
 
-wrong_e_0_2_3-----plain-----tuple-0---5-7-printed :
+wrong_e_0_2_3_____plain_____tuple_0___5_7_printed :
     resolve
     (bytes "index\t1\n"
     ++ bytes "M\tmain\n"
@@ -18,9 +18,9 @@ wrong_e_0_2_3-----plain-----tuple-0---5-7-printed :
     ++ bytes "Q\tdef\t0\t0\n")
     ≡ bytes "refused\t5\t9\n"
 unfolding resolves
-wrong_e_0_2_3-----plain-----tuple-0---5-7-printed = refl
+wrong_e_0_2_3_____plain_____tuple_0___5_7_printed = refl
 
-wrong_e_0_2_3-----return-----call-0-0---5-7-printed :
+wrong_e_0_2_3_____return_____call_0_0___5_7_printed :
     resolve
     (bytes "index\t1\n"
     ++ bytes "M\tmain\n"
@@ -34,7 +34,7 @@ wrong_e_0_2_3-----return-----call-0-0---5-7-printed :
     ++ bytes "Q\tdef\t0\t0\n")
     ≡ bytes "refused\t5\t9\n"
 unfolding resolves
-wrong_e_0_2_3-----return-----call-0-0---5-7-printed = refl
+wrong_e_0_2_3_____return_____call_0_0___5_7_printed = refl
 
 wrong_empty_printed :
     resolve

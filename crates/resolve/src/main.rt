@@ -1,13 +1,15 @@
 // Reads an index file from standard input and prints the answer lines of its questions, or the line of its refusal.
 #![tactic(auto)]
 
-ghost use Rattle.std.specs.Prelude.{◌≡◌, ◌≤◌, length};
+ghost use Rattle.std.specs.Prelude.{◌≡◌, ◌≤◌, IfOk, length};
 ghost use Rattle.resolution.specs.Resolve.{refusal_line};
 ghost use Rattle.answers.specs.Steps.{Long};
 ghost use Rattle.resolve.specs.Parts.{RefusedPut, PartIs};
 
 use answers::LinesAnswer;
 use demands::Place;
+use std::io;
+use std::io::{Print, Read};
 
 // What stands at the start of the answer buffer is printed: the question and its line to go on with and how many bytes, or the last bytes.
 #[derive(Clone, Copy)]
@@ -80,11 +82,28 @@ fn next_part(
     }
 }
 
+// Reads standard input until the space is full or the input ends, and says how many bytes stand at its start.
+fn read_input(rt: HostRuntime, space: &mut [u8]) -> io::Result<usize>
+    ensures { IfOk result (λ n. n ≤ length space.new) }
+{
+    let mut input = rt.stdin();
+    let mut n = 0;
+    while n < space.len() {
+        let more = input.read(&mut space[n..])?;
+        if more == 0 {
+            break;
+        }
+        n += more;
+    }
+    Ok(n)
+}
+
 // Prints the parts one behind the other. Each is the definition's (`PartIs`), and all together are `resolve` of the file (`CallsResolve`, `CallsEnd`).
-// That they are written in this order is to be read here: what goes to a descriptor is no value of the logic, and `write_all` promises nothing of it.
-fn main() {
+// That they are written in this order is to be read here: what is written is no value of the logic, and `write_all` promises nothing of it.
+// A read or a write that fails ends the program with its error.
+fn main(rt: HostRuntime) -> io::Result<()> {
     let mut space = input();
-    let n = io::read_full(0, &mut space);
+    let n = read_input(rt, &mut space)?;
     let mut records = record_words();
     let mut types = type_words();
     let mut demands = places();
@@ -102,13 +121,13 @@ fn main() {
             &mut out,
         ) {
             Part::More(next, next_line, k) => {
-                io::write_all(1, &out[..k]);
+                rt.write_all(&out[..k])?;
                 from = next;
                 line = next_line;
             }
             Part::Last(k) => {
-                io::write_all(1, &out[..k]);
-                return;
+                rt.write_all(&out[..k])?;
+                return Ok(());
             }
         }
     }

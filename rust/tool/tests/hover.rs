@@ -10,7 +10,11 @@ use common::fails;
 #[test]
 fn without_the_library_it_says_what_to_build() {
     for words in [&[][..], &["a.cm:1"], &["a.cm"]] {
-        fails("hover", words, "rt staticlib export");
+        fails(
+            "hover",
+            words,
+            "`rt lib` in the repository's folder crates/export",
+        );
         fails(
             "hover",
             words,

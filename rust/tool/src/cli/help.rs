@@ -43,8 +43,8 @@ are the modules that the file may use. Spans are the original parser's: that of 
 a call with arguments, ends before the closing bracket, so that the bracket shows what is around it, or
 `none`.
 
-This command needs a build with the library: `rt staticlib export`, then `cargo build --offline
---release --features library`.
+This command needs a build with the library: `rt lib` in crates/export, then `cargo build --offline
+--release --features library` in rust.
 
 exit status: 0 a type, a refusal or none is printed, 2 the argument names no place, a source can't be
 read or parsed, modules import each other in a ring, two have one name or a name can't be written, a

@@ -6,8 +6,8 @@ use super::arguments::Arguments;
 #[cfg(not(feature = "library"))]
 pub fn run(_: &mut Arguments) -> CommandResult {
     Err(
-        "hover: this tool was built without the proved library: `rt staticlib export` in the \
-         repository's first folder makes it, then `cargo build --offline --release --features \
+        "hover: this tool was built without the proved library: `rt lib` in the repository's \
+         folder crates/export makes it, then `cargo build --offline --release --features \
          library` in its folder rust"
             .to_string(),
     )
