@@ -3,8 +3,8 @@
 
 usage: tools/carried_modules.py LOG      (what `rt ci` printed)
 
-A library carries a checked module only under a name of at most 249 bytes, and the names of the cycle's modules have all its members in them
-(docs/DECISIONS.md, 47). Past that every crate above checks the cycle again, minutes and gigabytes each, and nothing else says so. The log has a part for each
+A library carries a checked module only under a name of at most 249 bytes (docs/DECISIONS.md, 47). Past that every crate above checks the module again, and for
+one of the cycle that takes minutes and gigabytes each; nothing else says so. The log has a part for each
 crate that was proved in the run, with a line for each library below it: what was loaded of it, and what was checked again. Of a crate that is kept from an
 earlier run on the machine it says nothing. Exit status 1: a crate checked a module of a library of the repository, or its part of the log lacks one of those
 that it stands on.

@@ -1,47 +1,52 @@
 -- `answers::answer_lines` meets its contract: before each line those so far stand at the start, and what is to be filled is the same. Assumes nothing.
-use Prim.Native.Nat.{◌-◌}
-use mathlib.Core.Path.{subst}
 use native.Mathlib.Omega.{arith}
-use borrow.Rule.Slice.PartMut.{mid_of}
-use lib.ListN.{length}
 use Rattle.records.specs.Layout.{index_of}
-use Rattle.answers.specs.Steps.{Stepped}
 use Rattle.answers.proofs.AskedLines.{few}
 use Rattle.answers.proofs.Filling.{filling_on, filling_past, filled_more, filled_end}
 use Rattle.answers.proofs.answer_lines.Goals as goal
 
 pub returns-in-NoRoom : goal.returns-in-NoRoom
 returns-in-NoRoom c =
-    let index = index_of c.args.file.now c.args.words.now in
-    let promise = Stepped c.args.file.now index c.loop-next.next c.loop-next.line c.loop-next.types c.loop-next.demands (mid_of c.loop-next.at (length c.loop-next.out - c.loop-next.at) c.loop-next.out) c.answer_line.new.types c.answer_line.new.demands c.answer_line.new.out in
-    filled_more c.args.file.now index c.args.from c.args.start c.args.types.now c.args.demands.now c.args.out.now c.loop-next.types c.loop-next.demands c.loop-next.out c.loop-next.next c.loop-next.line c.loop-next.at c.loop-next.invariant c.requires.out_len c.answer_line.new.types c.answer_line.new.demands c.answer_line.new.out (subst promise c.in-NoRoom.is c.answer_line.ensures)
+    let a = c.args in
+    let l = c.loop-next in
+    let index = index_of a.file.now a.words.now in
+    let all = c.answer_line.new in
+    filled_more a.file.now index a.from a.start a.types.now a.demands.now a.out.now l.types l.demands l.out l.next l.line l.at l.invariant c.requires.out_len all.types all.demands all.out c.in-NoRoom.ensures
 
 pub overflow_add-line : goal.overflow_add-line
 overflow_add-line c =
-    let index = index_of c.args.file.now c.args.words.now in
-    let promise = Stepped c.args.file.now index c.loop-next.next c.loop-next.line c.loop-next.types c.loop-next.demands (mid_of c.loop-next.at (length c.loop-next.out - c.loop-next.at) c.loop-next.out) c.answer_line.new.types c.answer_line.new.demands c.answer_line.new.out in
-    let step = (subst promise c.in-Line.is c.answer_line.ensures) in
-    omega (arith, few c.args.file.now index c.requires.holds_file.is step.after.there.question step.after.there.line c.loop-next.line step.after.there.is_line)
+    let a = c.args in
+    let l = c.loop-next in
+    let index = index_of a.file.now a.words.now in
+    let step = c.in-Line.ensures in
+    omega (arith, few a.file.now index c.requires.holds_file.is step.after.there.question step.after.there.line l.line step.after.there.is_line)
 
 pub loop-next-smaller-in-Line : goal.loop-next-smaller-in-Line
 loop-next-smaller-in-Line c =
-    let index = index_of c.args.file.now c.args.words.now in
-    let promise = Stepped c.args.file.now index c.loop-next.next c.loop-next.line c.loop-next.types c.loop-next.demands (mid_of c.loop-next.at (length c.loop-next.out - c.loop-next.at) c.loop-next.out) c.answer_line.new.types c.answer_line.new.demands c.answer_line.new.out in
-    let step = (subst promise c.in-Line.is c.answer_line.ensures) in
-    omega (arith, few c.args.file.now index c.requires.holds_file.is step.after.there.question step.after.there.line c.loop-next.line step.after.there.is_line)
+    let a = c.args in
+    let l = c.loop-next in
+    let index = index_of a.file.now a.words.now in
+    let step = c.in-Line.ensures in
+    omega (arith, few a.file.now index c.requires.holds_file.is step.after.there.question step.after.there.line l.line step.after.there.is_line)
 
 pub loop-next-preserved-in-Line : goal.loop-next-preserved-in-Line
 loop-next-preserved-in-Line c =
-    let index = index_of c.args.file.now c.args.words.now in
-    let promise = Stepped c.args.file.now index c.loop-next.next c.loop-next.line c.loop-next.types c.loop-next.demands (mid_of c.loop-next.at (length c.loop-next.out - c.loop-next.at) c.loop-next.out) c.answer_line.new.types c.answer_line.new.demands c.answer_line.new.out in
-    filling_on c.args.file.now index c.args.from c.args.start c.args.types.now c.args.demands.now c.args.out.now c.loop-next.types c.loop-next.demands c.loop-next.out c.loop-next.next c.loop-next.line c.loop-next.at c.loop-next.invariant c.requires.out_len c.answer_line.new.types c.answer_line.new.demands c.answer_line.new.out c.in-Line.n (subst promise c.in-Line.is c.answer_line.ensures) c.answer_line.auto.types c.answer_line.auto.demands
+    let a = c.args in
+    let l = c.loop-next in
+    let index = index_of a.file.now a.words.now in
+    let all = c.answer_line in
+    filling_on a.file.now index a.from a.start a.types.now a.demands.now a.out.now l.types l.demands l.out l.next l.line l.at l.invariant c.requires.out_len all.new.types all.new.demands all.new.out c.in-Line.n c.in-Line.ensures all.auto.types all.auto.demands
 
 pub loop-next-preserved : goal.loop-next-preserved
 loop-next-preserved c =
-    let index = index_of c.args.file.now c.args.words.now in
-    let promise = Stepped c.args.file.now index c.loop-next.next c.loop-next.line c.loop-next.types c.loop-next.demands (mid_of c.loop-next.at (length c.loop-next.out - c.loop-next.at) c.loop-next.out) c.answer_line.new.types c.answer_line.new.demands c.answer_line.new.out in
-    filling_past c.args.file.now index c.args.from c.args.start c.args.types.now c.args.demands.now c.args.out.now c.loop-next.types c.loop-next.demands c.loop-next.out c.loop-next.next c.loop-next.line c.loop-next.at c.loop-next.invariant c.requires.out_len c.answer_line.new.types c.answer_line.new.demands c.answer_line.new.out (subst promise c.in-PastLast.is c.answer_line.ensures)
+    let a = c.args in
+    let l = c.loop-next in
+    let index = index_of a.file.now a.words.now in
+    let all = c.answer_line.new in
+    filling_past a.file.now index a.from a.start a.types.now a.demands.now a.out.now l.types l.demands l.out l.next l.line l.at l.invariant c.requires.out_len all.types all.demands all.out c.in-PastLast.ensures
 
 pub returns : goal.returns
 returns c =
-    filled_end c.args.file.now (index_of c.args.file.now c.args.words.now) c.args.from c.args.start c.args.types.now c.args.demands.now c.args.out.now c.loop-next.types c.loop-next.demands c.loop-next.out c.loop-next.next c.loop-next.line c.loop-next.at c.loop-next.invariant (omega (arith, c.question_count-count.ensures c.args.file.now))
+    let a = c.args in
+    let l = c.loop-next in
+    filled_end a.file.now (index_of a.file.now a.words.now) a.from a.start a.types.now a.demands.now a.out.now l.types l.demands l.out l.next l.line l.at l.invariant (omega (arith, c.question_count-count.ensures a.file.now))
