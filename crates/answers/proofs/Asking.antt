@@ -16,7 +16,7 @@ use Rattle.resolution.specs.Asked.{Asked, question_asked}
 use Rattle.resolution.specs.Programs.{Said}
 use Rattle.resolution.specs.TypeResolution.{none_word, none_said, asked_program}
 use Rattle.resolution.specs.Run.{answered, run, demand, resolve_asked}
-use Rattle.resolution.specs.Answer.{type_text, Verdict, text_verdict, said_verdict, outcome_verdict, verdict, asked_lead, Line, line_text}
+use Rattle.resolution.specs.Answer.{type_text, Verdict, text_verdict, said_verdict, outcome_verdict, verdict, asked_lead, line_text}
 use Rattle.resolution.specs.TableOk.{TableOk}
 use Rattle.resolution.proofs.Tables.{first_table_ok}
 use Rattle.type_table.specs.Layout.{table_of}

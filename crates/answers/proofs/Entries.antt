@@ -1,5 +1,5 @@
 -- The public entries: what a loaded or refused file and a question found or lacking give, and the first words of longer buffers. Assumes nothing.
-use Prim.Native.Nat.{ℕ, ◌+◌, ◌≤◌, ◌<◌}
+use Prim.Native.Nat.{ℕ, ◌≤◌, ◌<◌}
 use mathlib.Core.Path.{◌≡◌, refl, sym, ap, subst, ◌∙◌}
 use mathlib.Core.List.{List, [], ◌++◌, append_assoc}
 use mathlib.Core.Option.{none, some}
@@ -15,7 +15,7 @@ use Rattle.model.specs.Refusals.{refusal_link}
 use Rattle.format.specs.Load.{accepted, refused, load}
 use Rattle.records.specs.Layout.{index_of}
 use Rattle.resolution.specs.Asked.{Asked, question_asked}
-use Rattle.resolution.specs.Answer.{Verdict, verdict, asked_lead, Line, line_text, written, question_lines}
+use Rattle.resolution.specs.Answer.{Verdict, verdict, asked_lead, line_text, written, question_lines}
 use Rattle.resolution.specs.Resolve.{Reply, line_at, ask_loaded, written_of, answer}
 use Rattle.resolution.proofs.Secrecy.{question_answered}
 use Rattle.resolution.proofs.LineFits.{line_fits}
