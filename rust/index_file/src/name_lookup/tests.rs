@@ -115,7 +115,7 @@ fn chains() {
     assert_eq!(chain(4), []);
 }
 
-/// `latest-in-chain-cases`.
+/// `latest_in_chain_cases`.
 #[test]
 fn latest_in_chain() {
     let module = names();
@@ -140,7 +140,7 @@ fn latest_in_chain() {
 /// A name, the scope and the span of its use; the scope and the definition that are found.
 type Case = (&'static str, usize, (u64, u64), Option<(usize, usize)>);
 
-/// `position-cases`, scopes without a record, and an end before the start.
+/// `position_cases`, scopes without a record, and an end before the start.
 const AT_POSITION: [Case; 32] = [
     // The last that begins at the use or before it; the earlier one; in the module's scope the struct from
     // any position, and the const from its own start on.
