@@ -10,7 +10,7 @@ use borrow.Author.Tests.{eq-eqb, ne_eqb}
 use Rattle.model.specs.Common.{Text, eq_numbers, first}
 use Rattle.format.specs.declared.Kind.{Kind}
 use Rattle.format.specs.Words.{is_keyword, place_in, unary_op_words, binary_op_words}
-use Rattle.format.specs.Fields.{stops, field_of, behind, is_name, plain_number, number_of, Value, absent, numbered, name_value, or_dash, value_of, Read, reading, behind_tab, slot_field, is_nothing, slot}
+use Rattle.format.specs.Fields.{stops, field_of, behind, is_name, plain_number, number_of, absent, numbered, name_value, or_dash, value_of, Read, reading, behind_tab, slot_field, is_nothing, slot}
 use Rattle.words.specs.declared.Found.{Found}
 use Rattle.words.specs.Packed.{candidate_place, found_is}
 use Rattle.words.proofs.Bytes.{here}

@@ -1,6 +1,6 @@
 -- Lines written into a lent buffer: a text between the lead fields and the LF, and what stands at the start of the bytes. Assumes nothing.
 use Prim.Native.Nat.{ℕ, ◌+◌, ◌-◌, ◌≤◌, ◌<◌, zero-le}
-use mathlib.Core.Path.{◌≡◌, refl, sym, ap, ap₂, ◌∙◌}
+use mathlib.Core.Path.{◌≡◌, sym, ap, ap₂, ◌∙◌}
 use mathlib.Core.List.{◌++◌, append_assoc}
 use native.Mathlib.Nat.{zero-add, lt_trans}
 use native.Mathlib.Omega.{arith}

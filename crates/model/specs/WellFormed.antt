@@ -1,6 +1,6 @@
 -- What the proofs use of what loading makes sure of (document 01, "The file `resolve` reads"). Assumes nothing.
 use Rattle.std.specs.Prelude.{ℕ, ◌≤◌, ◌<◌, ◌≡◌, length}
-use mathlib.Core.List.{List, Memᴰ}
+use mathlib.Core.List.{Memᴰ}
 use Rattle.std.proofs.Math.Option.{Option, none, some}
 use Rattle.std.proofs.Math.ListN.{get_elem?}
 use Rattle.model.specs.Records.{Name, ScopeKind, Scope, TypeExpr, Definition, ExpressionInfo, Module, Question, Index}

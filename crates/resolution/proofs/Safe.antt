@@ -1,8 +1,8 @@
 -- Programs that stay within the table of types: what they hand on is a type of the table. Assumes nothing.
-use Prim.Native.Nat.{ℕ, ◌≤◌, ◌<◌}
+use Prim.Native.Nat.{ℕ, ◌<◌}
 use mathlib.Core.Path.{◌≡◌, refl}
 use mathlib.Core.Bool.{Bool, true, false}
-use mathlib.Core.List.{List, Memᴰ}
+use mathlib.Core.List.{Memᴰ}
 use mathlib.Core.Option.{Option, none, some}
 use lib.Dec.{lit≤}
 use Rattle.resolution.specs.TypeData.{TypeData}

@@ -1,5 +1,4 @@
 -- `compatibility::unary_result` meets its contract: the rows are tried from the top. Assumes nothing.
-use Prim.Native.Nat.{◌-◌}
 use native.Mathlib.Omega.{arith}
 use Rattle.records.specs.Meaning.{unary_op_of}
 use Rattle.type_table.specs.Layout.{table_of}

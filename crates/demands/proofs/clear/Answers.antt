@@ -1,6 +1,5 @@
 -- `demands::clear` meets its contract: the places before `i` are zero. Assumes nothing.
 use mathlib.Core.Path.{◌∙◌}
-use Prim.Native.Nat.{◌-◌}
 use native.Mathlib.Omega.{arith}
 use lib.ListN.{set}
 use Rattle.demands.specs.Meaning.{place_of}

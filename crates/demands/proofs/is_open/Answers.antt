@@ -1,7 +1,5 @@
 -- `demands::is_open` meets its contract: no place before `i` has the demand. Assumes nothing.
 use mathlib.Core.Path.{ap, ◌∙◌}
-use mathlib.Core.Bool.{false}
-use Prim.Native.Nat.{◌-◌}
 use native.Mathlib.Omega.{arith}
 use Rattle.resolution.specs.Run.{eq_demand}
 use Rattle.demands.specs.Meaning.{demand_of}

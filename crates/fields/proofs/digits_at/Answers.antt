@@ -1,5 +1,4 @@
 -- `fields::digits_at` meets its contract: the whole number is what is left of it, behind the digits that were read. Assumes nothing.
-use Prim.Native.Nat.{◌-◌}
 use mathlib.Core.Path.{sym, ◌∙◌}
 use native.Mathlib.Omega.{arith}
 use Rattle.words.proofs.Bytes.{field_stop, field_out, stops_tab, stops_lf, stops_no}

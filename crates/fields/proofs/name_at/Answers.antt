@@ -9,7 +9,7 @@ use Rattle.format.specs.Fields.{field_of, text}
 use Rattle.fields.specs.Held.{visible_run}
 use native.Mathlib.Omega.{arith}
 use Rattle.fields.proofs.Numbers.{is_empty_of}
-use Rattle.fields.proofs.Names.{not_yes, not_no, name_dash, name_hidden, name_empty, name_long, name_is}
+use Rattle.fields.proofs.Names.{name_dash, name_hidden, name_empty, name_long, name_is}
 use Rattle.fields.proofs.name_at.Goals as goal
 
 pub returns-then-is_dash_at : goal.returns-then-is_dash_at

@@ -1,5 +1,4 @@
 -- `fields::visible_end` meets its contract: the visible bytes from `from` on end where those from `e` on do. Assumes nothing.
-use Prim.Native.Nat.{◌-◌}
 use mathlib.Core.Path.{ap}
 use native.Mathlib.Omega.{arith}
 use lib.ListN.{length}

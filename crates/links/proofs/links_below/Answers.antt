@@ -1,5 +1,4 @@
 -- `links::links_below` meets its contract: the items that are left decide the whole. Assumes nothing.
-use Prim.Native.Nat.{◌-◌}
 use mathlib.Core.Path.{sym, ◌∙◌}
 use Rattle.links.proofs.Below.{link_same, links_begin, every_stop, every_go, every_end}
 use Rattle.links.proofs.links_below.Goals as goal

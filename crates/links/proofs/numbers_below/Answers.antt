@@ -1,5 +1,4 @@
 -- `links::numbers_below` meets its contract: the items that are left decide the whole. Assumes nothing.
-use Prim.Native.Nat.{◌-◌}
 use mathlib.Core.Path.{sym, ◌∙◌}
 use borrow.Author.Tests.{lt-ltb, le-ltb}
 use Rattle.links.proofs.Below.{below_same, numbers_begin, every_stop, every_go, every_end}

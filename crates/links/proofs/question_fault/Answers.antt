@@ -1,5 +1,4 @@
 -- `links::question_fault` meets its contract: the questions that are left decide the whole. Assumes nothing.
-use Prim.Native.Nat.{◌-◌}
 use mathlib.Core.Path.{sym, ap, ◌∙◌}
 use mathlib.Core.Bool.{not}
 use Rattle.format.specs.LinkCheck.{question_linked}

@@ -1,8 +1,6 @@
 -- `links::type_fault` meets its contract: the rows that are left decide the whole. Assumes nothing.
-use Prim.Native.Nat.{◌-◌}
 use mathlib.Core.Path.{sym, ap, ◌∙◌}
 use mathlib.Core.Bool.{not}
-use Rattle.format.specs.LinkCheck.{type_linked}
 use Rattle.records.specs.Layout.{module_row}
 use Rattle.links.proofs.Lines.{numbered_begin, row_hit, row_miss, row_end}
 use Rattle.links.proofs.type_fault.Goals as goal

@@ -1,6 +1,5 @@
 -- `semantic_index::expression_at_position` meets its contract: each turn keeps the best of the rows that were looked at, and the best of all rows is what
 -- the definition finds. Assumes nothing.
-use Prim.Native.Nat.{◌-◌}
 use native.Mathlib.Omega.{arith}
 use mathlib.Core.Path.{sym, ap, ◌∙◌}
 use Rattle.model.specs.AtPosition.{best_number}

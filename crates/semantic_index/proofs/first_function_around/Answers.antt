@@ -1,6 +1,5 @@
 -- `semantic_index::first_function_around` meets its contract: no definition before d is a function around s. Assumes nothing.
 use mathlib.Core.Path.{refl, sym, ap, ◌∙◌}
-use Prim.Native.Nat.{◌-◌}
 use Rattle.semantic_index.proofs.Scopes.{met_begin, met_hit, met_top, met_up, met_end}
 use Rattle.semantic_index.proofs.Searches.{first_hit, first_miss, first_end}
 use Rattle.semantic_index.proofs.Definitions.{function_begin, no_function, a_function}

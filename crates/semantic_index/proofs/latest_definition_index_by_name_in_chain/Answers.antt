@@ -1,7 +1,7 @@
 -- `semantic_index::latest_definition_index_by_name_in_chain` meets its contract: the scopes that are left decide the whole. Assumes nothing.
 use mathlib.Core.Path.{sym, ap, ◌∙◌}
 use Rattle.semantic_index.proofs.Scopes.{found_begin, found_hit, found_top, found_up, found_end}
-use Rattle.model.specs.Lookups.{latest_definition_index_by_name, latest_definition_index_by_name_in_chain}
+use Rattle.model.specs.Lookups.{latest_definition_index_by_name_in_chain}
 use Rattle.records.specs.Meaning.{scope_link_of, definition_link_of}
 use Rattle.semantic_index.proofs.latest_definition_index_by_name_in_chain.Goals as goal
 

@@ -1,6 +1,5 @@
 -- `semantic_index::module_by_name` meets its contract: the modules that are left decide the whole. Assumes nothing.
 use mathlib.Core.Path.{sym, ◌∙◌}
-use Prim.Native.Nat.{◌-◌}
 use Rattle.semantic_index.proofs.Searches.{first_hit, first_miss, first_end}
 use Rattle.semantic_index.proofs.Definitions.{module_begin, module_test}
 use Rattle.semantic_index.proofs.module_by_name.Goals as goal

@@ -1,7 +1,7 @@
 -- `semantic_index::resolve_name_at_position` meets its contract: the scopes that are left decide the whole. Assumes nothing.
 use mathlib.Core.Path.{sym, ap, ◌∙◌}
 use Rattle.semantic_index.proofs.Scopes.{found_begin, found_hit, found_top, found_up, found_end}
-use Rattle.model.specs.Lookups.{latest_visible_by_name, resolve_name_at_position}
+use Rattle.model.specs.Lookups.{resolve_name_at_position}
 use Rattle.records.specs.Meaning.{scope_link_of, definition_link_of}
 use Rattle.semantic_index.proofs.resolve_name_at_position.Goals as goal
 

@@ -1,6 +1,5 @@
 -- `semantic_index::root_scope` meets its contract: the rows that are left decide the whole. Assumes nothing.
 use mathlib.Core.Path.{sym, ◌∙◌}
-use Prim.Native.Nat.{◌-◌}
 use Rattle.semantic_index.proofs.Searches.{first_hit, first_miss, first_end}
 use Rattle.semantic_index.proofs.Definitions.{root_begin}
 use Rattle.semantic_index.proofs.root_scope.Goals as goal

@@ -1,7 +1,6 @@
 -- The proof of the cycle of calls. Assumes nothing.
 use Rattle.type_resolution.proofs.Leading.{elements_more, leads_from, numbers_begin, collecting_begin, all_more, all_stops, all_ends, exactly_all, exactly_none, links_begin, arguments_more, arguments_stop, arguments_done, types_kept, gathering_begin, elements_skip, elements_stop, elements_end, at_most_all, at_most_none, taken_length, links_behind_first, same_absent, same_more, same_differs, same_stops, same_all}
 use mathlib.Core.Path.{refl, ap, ◌∙◌, sym, subst}
-use Prim.Native.Nat.{◌-◌}
 use lib.ListN.{take, length-set, get_elem?}
 use Rattle.resolution.specs.TypeResolution.{resolve_all, infer_arguments, array_type, binary_type, call_type, definition_kind_type, infer_elements, empty_array_type, new_type, node_type, parenthesized_type, infer_only, context_from_origin, assignment_context, return_context, array_repeat_type, all_same_type, tuple_type, type_expr_type, unary_type}
 use native.Mathlib.Omega.{arith}
@@ -17,7 +16,6 @@ use Rattle.type_resolution.proofs.Shaped.{const_declared, let_declared, index_re
 use Rattle.views.specs.Meaning.{found_import_of, found_field_type_of}
 use Rattle.type_resolution.specs.Shapes.{empty_array_in, struct_named, repeat_in, ShortNode, tuple_expr_type, ShortType}
 use Rattle.type_table.specs.Reads.{numeric_context_read}
-use borrow.Fn.PlainCycle.{is}
 use Rattle.type_resolution.proofs.+resolution.Goals as goal
 
 pub all-loop-i-init : goal.all-loop-i-init

@@ -1,7 +1,7 @@
 -- `type_resolution::numeric_or` meets its contract. Assumes nothing.
 use mathlib.Core.Path.{sym, ap, ◌∙◌}
 use Rattle.type_table.specs.Meaning.{found_type_of}
-use Rattle.resolution.specs.Views.{numeric, numeric_context}
+use Rattle.resolution.specs.Views.{numeric_context}
 use Rattle.type_table.specs.Layout.{table_of}
 use Rattle.model.specs.Common.{let_some}
 use Rattle.type_table.specs.Reads.{numeric_read, numeric_context_read}

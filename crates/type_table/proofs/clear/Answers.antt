@@ -1,5 +1,4 @@
 -- `type_table::clear` meets its contract. Assumes nothing.
-use Prim.Native.Nat.{◌-◌}
 use mathlib.Core.Path.{◌∙◌}
 use native.Mathlib.Omega.{arith}
 use Rattle.type_table.proofs.Started.{filled_is}

@@ -1,11 +1,9 @@
 -- `type_table::data` meets its contract. Assumes nothing.
-use Prim.Native.Nat.{ℕ, ◌+◌, ◌≤◌, zero-le}
-use mathlib.Core.Path.{◌≡◌, refl, sym, ap, ap₂, ◌∙◌}
-use mathlib.Core.List.{List}
+use Prim.Native.Nat.{zero-le}
+use mathlib.Core.Path.{refl, sym, ap, ap₂, ◌∙◌}
 use native.Mathlib.Omega.{arith}
 use Rattle.resolution.specs.TypeData.{TypeData}
-use Rattle.resolution.specs.Types.{data_of}
-use Rattle.type_table.specs.Layout.{data_by, table_of, names_at, items_at, items_from, names_from, fields_of, item_count, Sound}
+use Rattle.type_table.specs.Layout.{data_by, items_at, items_from, names_from, fields_of}
 use Rattle.type_table.proofs.Rows.{data_past, data_kind, names_struct, no_kind}
 use Rattle.type_table.proofs.data.Goals as goal
 

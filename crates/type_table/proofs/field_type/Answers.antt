@@ -1,5 +1,4 @@
 -- `type_table::field_type` meets its contract. Assumes nothing.
-use Prim.Native.Nat.{◌-◌}
 use mathlib.Core.Path.{sym, ap, ap₂, ◌∙◌}
 use Rattle.model.specs.Common.{eq_numbers}
 use Rattle.records.specs.Meaning.{name_of}

@@ -1,5 +1,4 @@
 -- `type_table::navigate` meets its contract. Assumes nothing.
-use Prim.Native.Nat.{◌-◌}
 use mathlib.Core.Path.{sym, ap, ◌∙◌}
 use Rattle.type_table.specs.Layout.{table_of}
 use Rattle.type_table.specs.Meaning.{found_types_of, found_type_of}

@@ -1,5 +1,4 @@
 -- `type_table::same_names` meets its contract. Assumes nothing.
-use Prim.Native.Nat.{◌-◌}
 use mathlib.Core.Path.{sym, ap₂, ◌∙◌}
 use Rattle.model.specs.Common.{eq_numbers}
 use Rattle.records.specs.Layout.{name_by}

@@ -1,8 +1,6 @@
 -- Types and lists measured: an element has a lower number than its holder, so the calls end. Assumes nothing.
-use Prim.Native.Nat.{◌-◌}
 use mathlib.Core.Path.{ap}
 use native.Mathlib.Omega.{arith}
-use borrow.Fn.PlainCycle.{is}
 use lib.ListN.{length}
 use Rattle.model.specs.Common.{bytes}
 use Rattle.resolution.specs.Answer.{type_text}

@@ -3,7 +3,6 @@ use Prim.Native.Nat.{◌+◌, ◌-◌, zero-le}
 use mathlib.Core.Path.{refl, sym, ap, ◌∙◌}
 use mathlib.Core.List.{◌++◌}
 use native.Mathlib.Omega.{arith}
-use borrow.Fn.PlainCycle.{is}
 use lib.ListN.{length, get_or, take, drop}
 use Rattle.model.specs.Common.{bytes}
 use Rattle.resolution.specs.Answer.{decimal, comma_texts, type_text}

@@ -1,6 +1,5 @@
 -- `views::field_type` meets its contract: the fields that are left decide the whole. Assumes nothing.
 use mathlib.Core.Path.{sym, ◌∙◌}
-use Prim.Native.Nat.{◌-◌}
 use Rattle.views.proofs.Fields.{type_begin, type_hit, type_miss, type_end}
 use Rattle.views.proofs.field_type.Goals as goal
 

@@ -1,6 +1,5 @@
 -- `words::field_end` meets its contract: the field from `from` on ends where the one from `e` on does.
 -- Assumes nothing.
-use Prim.Native.Nat.{◌-◌}
 use mathlib.Core.Path.{ap}
 use native.Mathlib.Omega.{arith}
 use lib.ListN.{length}

@@ -1,5 +1,4 @@
 -- `words::same_word` meets its contract: the word and the table agree as far as they were compared. Assumes nothing.
-use Prim.Native.Nat.{◌-◌}
 use mathlib.Core.Path.{sym, ◌∙◌, ap}
 use native.Mathlib.Omega.{arith}
 use lib.ListN.{take, drop, length-drop}

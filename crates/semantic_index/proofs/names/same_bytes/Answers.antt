@@ -1,7 +1,6 @@
 -- `semantic_index::names::same_bytes` meets its contract: what is left to compare decides the whole. Assumes nothing.
 use mathlib.Core.Path.{sym, ◌∙◌}
 use native.Mathlib.Omega.{arith}
-use Prim.Native.Nat.{◌-◌}
 use Rattle.semantic_index.proofs.names.Equal.{same, left-begin, left-stop, left-go, left_end}
 use Rattle.semantic_index.proofs.names.same_bytes.Goals as goal
 
