@@ -2,10 +2,11 @@
 use Prim.Native.Nat.{ℕ, zero, suc, ◌≤◌, ◌<◌, min}
 use mathlib.Core.Path.{◌≡◌, refl, sym, ap, ap₂, subst, ◌∙◌}
 use mathlib.Core.List.{List, [], ◌∷◌, ◌++◌, append-nil}
-use mathlib.Core.Option.{none, some}
+use Rattle.std.specs.Prelude.{None, Some}
 use native.Mathlib.Nat.{zero-add}
 use native.Mathlib.Omega.{arith}
-use lib.ListN.{length, get_elem?, replicate, drop_of_length-le}
+use Rattle.std.specs.Prelude.{slice_get}
+use lib.ListN.{length, replicate, drop_of_length-le}
 use Rattle.model.specs.Common.{Text}
 use Rattle.model.specs.Records.{Question, Index}
 use Rattle.model.specs.Limits.{max_open_demands}
@@ -76,16 +77,16 @@ module _ (file words types started : List ℕ) (demands : List (List ℕ)) (load
         runs.outcome ∙ ap (λ table. run (demand max_open_demands (index_of file words) []) (asked_program (index_of file words) about) table) (starts.table long file)
 
     -- a refusal is the definition's
-    pub refused_as : (number : ℕ) → r ≡ code_said.Said.Refused number → verdict (index_of file words) about ≡ some (Verdict.refused number)
+    pub refused_as : (number : ℕ) → r ≡ code_said.Said.Refused number → verdict (index_of file words) about ≡ Some (Verdict.refused number)
     unfolding verdict outcome_verdict says
     refused_as number e = ap outcome_verdict (sym outcome ∙ ap (λ x. says x (table_of file types')) e)
 
     -- what is said otherwise, with the verdict of it
-    module _ (said : Said) (is : says r (table_of file types') ≡ answered said (table_of file types')) (v : Verdict) (is_verdict : said_verdict (table_of file types') said ≡ some v) where
+    module _ (said : Said) (is : says r (table_of file types') ≡ answered said (table_of file types')) (v : Verdict) (is_verdict : said_verdict (table_of file types') said ≡ Some v) where
       answered_as : resolve_asked (index_of file words) about ≡ answered said (table_of file types')
       answered_as = sym outcome ∙ is
 
-      verdict_as : verdict (index_of file words) about ≡ some v
+      verdict_as : verdict (index_of file words) about ≡ Some v
       unfolding verdict outcome_verdict
       verdict_as = ap outcome_verdict answered_as ∙ is_verdict
 
@@ -119,12 +120,12 @@ module _ (file words types started : List ℕ) (demands : List (List ℕ)) (load
 -- ------------------------------------------------------------------ a question by its number
 
 pub row_asked : (file words : List ℕ) (number : ℕ) (question : Question) → question ≡ question_row words number
-    → number < length (index_of file words).questions → get_elem? (index_of file words).questions number ≡ some question
+    → number < length (index_of file words).questions → slice_get (index_of file words).questions number ≡ Some question
 unfolding index_of
 row_asked file words number question same below =
     each_at (question_row words) 0 (question_count words) number (omega (arith, each_length (question_row words) 0 (question_count words)))
-    ∙ ap (λ k. some (question_row words k)) (zero-add number)
-    ∙ ap some (sym same)
+    ∙ ap (λ k. Some (question_row words k)) (zero-add number)
+    ∙ ap Some (sym same)
 
 -- ------------------------------------------------------------------ a line by its number
 
@@ -134,15 +135,15 @@ types_after file index asked types (Verdict.typed text) answering hold = hold
 types_after file index asked types (Verdict.worded word) answering hold = hold
 types_after file index asked types (Verdict.refused number) answering hold = absurd answering
 
-module _ (file : Text) (index : Index) (number : ℕ) (question : Question) (has_question : get_elem? index.questions number ≡ some question) (line_number : ℕ)
+module _ (file : Text) (index : Index) (number : ℕ) (question : Question) (has_question : slice_get index.questions number ≡ Some question) (line_number : ℕ)
     (before_types : List ℕ) (before_demands : List (List ℕ)) (out : List ℕ) where
-  pub past_step : none ≡ get_elem? (question_asked index question) line_number
+  pub past_step : None ≡ slice_get (question_asked index question) line_number
       → Stepped file index number line_number before_types before_demands out before_types before_demands out Step.PastLast
   past_step is =
       record { question = question; has_question = has_question; is_past = past_line index question line_number (sym is); types_same = refl; demands_same = refl; out_same = refl }
 
-  module _ (about : Asked) (asks : some about ≡ get_elem? (question_asked index question) line_number) (types : List ℕ) (demands : List (List ℕ)) (out' : List ℕ) where
-    abbrev pub the_line : (v : Verdict) → verdict index about ≡ some v → LineThere index number line_number
+  module _ (about : Asked) (asks : Some about ≡ slice_get (question_asked index question) line_number) (types : List ℕ) (demands : List (List ℕ)) (out' : List ℕ) where
+    abbrev pub the_line : (v : Verdict) → verdict index about ≡ Some v → LineThere index number line_number
     the_line v has =
         record { question = question; has_question = has_question; line = record { asked = about; verdict = v }; is_line = line_there index question about v line_number (sym asks) has }
 
@@ -171,8 +172,8 @@ module _ (file : Text) (index : Index) (number : ℕ) (question : Question) (has
     unfolding line_text
     refused_step refusal all last r put = at r (subst (λ o. StepIs (line_with (asked_lead about) (Verdict.refused refusal)) o last r) all.is.same put)
       where
-        has : verdict index about ≡ some (Verdict.refused refusal)
-        has = all.has ∙ ap some all.is.is
+        has : verdict index about ≡ Some (Verdict.refused refusal)
+        has = all.has ∙ ap Some all.is.is
 
         at : (r : Step) → StepIs (line_with (asked_lead about) (Verdict.refused refusal)) out last r
             → Stepped file index number line_number before_types before_demands out types demands last r

@@ -2,10 +2,11 @@
 use Prim.Native.Nat.{ℕ, ◌≤◌, ◌<◌}
 use mathlib.Core.Path.{◌≡◌, refl, sym, ap, subst, ◌∙◌}
 use mathlib.Core.List.{List, [], ◌++◌, append_assoc}
-use mathlib.Core.Option.{none, some}
+use Rattle.std.specs.Prelude.{None, Some}
 use native.Mathlib.Omega.{arith}
 use borrow.Author.Tests.{le-leb, lt-leb}
-use lib.ListN.{length, take, drop, get_elem?, replicate, length-append, length-drop, take-append-drop}
+use Rattle.std.specs.Prelude.{slice_get}
+use lib.ListN.{length, take, drop, replicate, length-append, length-drop, take-append-drop}
 use lib.Seq.{take_at, drop_at, drop-append-le, take_all, length-take-le}
 use Rattle.std.specs.Prelude.{if◌then◌else◌}
 use Rattle.model.specs.Common.{Text, let_some}
@@ -83,7 +84,7 @@ module _ (file : Text) (number line_number : ℕ) (types : List ℕ) (demands : 
         leaves = record { records_are = zero; types_same = refl; demands_same = refl };
       }
 
-  pub lacking : (index : Index) (words : List ℕ) → load file ≡ accepted index → none ≡ get_elem? index.questions number → words ≡ replicate record_words 0
+  pub lacking : (index : Index) (words : List ℕ) → load file ≡ accepted index → None ≡ slice_get index.questions number → words ≡ replicate record_words 0
       → ExactAnswered file number line_number types demands out words types demands out (LineAnswer.FileRefused refusal_link 0)
   unfolding answer ask_loaded answer_of answer_out written_of
   lacking index words loaded lacks zero =
@@ -97,9 +98,9 @@ module _ (file : Text) (number line_number : ℕ) (types : List ℕ) (demands : 
       }
 
   module _ (words : List ℕ) (question : Question) (loaded : load file ≡ accepted (index_of file words))
-      (has_question : get_elem? (index_of file words).questions number ≡ some question) (types' : List ℕ) (demands' : List (List ℕ)) (out' : List ℕ) where
+      (has_question : slice_get (index_of file words).questions number ≡ Some question) (types' : List ℕ) (demands' : List (List ℕ)) (out' : List ℕ) where
     -- past the last line
-    pub past_reply : none ≡ get_elem? (question_asked (index_of file words) question) line_number → types' ≡ zero_types → demands' ≡ zero_places
+    pub past_reply : None ≡ slice_get (question_asked (index_of file words) question) line_number → types' ≡ zero_types → demands' ≡ zero_places
         → ExactAnswered file number line_number types demands out words types' demands' out LineAnswer.PastLast
     unfolding answer_of answer_out written_of line_at
     past_reply is types_zero demands_zero =
@@ -112,11 +113,11 @@ module _ (file : Text) (number line_number : ℕ) (types : List ℕ) (demands : 
           leaves = record { records_are = loaded; types_are = types_zero; demands_are = demands_zero };
         }
 
-    module _ (about : Asked) (asks : some about ≡ get_elem? (question_asked (index_of file words) question) line_number) where
-      abbrev there : (v : Verdict) → verdict (index_of file words) about ≡ some v → LineThere (index_of file words) number line_number
+    module _ (about : Asked) (asks : Some about ≡ slice_get (question_asked (index_of file words) question) line_number) where
+      abbrev there : (v : Verdict) → verdict (index_of file words) about ≡ Some v → LineThere (index_of file words) number line_number
       there v has = the_line file (index_of file words) number question has_question line_number types demands out about asks types' demands' out' v has
 
-      reply_as : (v : Verdict) → verdict (index_of file words) about ≡ some v → answer file number line_number ≡ Reply.the_line (record { asked = about; verdict = v })
+      reply_as : (v : Verdict) → verdict (index_of file words) about ≡ Some v → answer file number line_number ≡ Reply.the_line (record { asked = about; verdict = v })
       unfolding line_at
       reply_as v has =
           question_answered file number (index_of file words) question loaded has_question line_number
@@ -144,7 +145,7 @@ module _ (file : Text) (number line_number : ℕ) (types : List ℕ) (demands : 
           → ExactAnswered file number line_number types demands out words types' demands' out' (LineAnswer.Refused refusal 0)
       unfolding answer_of verdict_answer answer_out written_of written
       refused_reply refusal all =
-          let reply = reply_as (Verdict.refused refusal) (all.has ∙ ap some all.is.is) in
+          let reply = reply_as (Verdict.refused refusal) (all.has ∙ ap Some all.is.is) in
           record {
             is = sym (ap answer_of reply);
             out_is = all.is.same ∙ sym (ap (λ r. answer_out r out) reply);

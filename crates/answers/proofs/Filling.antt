@@ -2,12 +2,13 @@
 use Prim.Native.Nat.{ℕ, zero, suc, ◌+◌, ◌-◌, ◌≤◌, ◌<◌}
 use mathlib.Core.Path.{◌≡◌, refl, sym, ap, ap₂, subst, ◌∙◌}
 use mathlib.Core.List.{List, [], ◌∷◌, ◌++◌, append_assoc, append-nil}
-use mathlib.Core.Option.{none, some}
+use Rattle.std.specs.Prelude.{None, Some}
 use native.Mathlib.Numerals.{add-one}
 use native.Mathlib.Omega.{arith}
 use borrow.Author.Tests.{le-leb, lt-leb}
 use borrow.Rule.Slice.PartMut.{mid_of, post_of, put_mid, put_same}
-use lib.ListN.{length, take, drop, get_elem?, length-append, length-drop, drop_of_length-le}
+use Rattle.std.specs.Prelude.{slice_get}
+use lib.ListN.{length, take, drop, length-append, length-drop, drop_of_length-le}
 use lib.Seq.{take_at, drop_at, drop-drop, take_all}
 use Rattle.std.specs.Prelude.{if◌then◌else◌}
 use Rattle.model.specs.Common.{Text}
@@ -24,12 +25,12 @@ use Rattle.line_text.proofs.Lines.{line_some}
 
 -- ------------------------------------------------------------------ one piece of a list
 
-pub drop_here : {A : Type 0} (xs : List A) (i : ℕ) (x : A) → get_elem? xs i ≡ some x → drop i xs ≡ x ∷ drop (suc i) xs
+pub drop_here : {A : Type 0} (xs : List A) (i : ℕ) (x : A) → slice_get xs i ≡ Some x → drop i xs ≡ x ∷ drop (suc i) xs
 drop_here [] i x e = absurd (none≢some e)
 drop_here (y ∷ xs) zero x e = ap (λ z. z ∷ xs) (some-injective e)
 drop_here (y ∷ xs) (suc i) x e = drop_here xs i x e
 
-pub drop_past : {A : Type 0} (xs : List A) (i : ℕ) → get_elem? xs i ≡ none → drop i xs ≡ []
+pub drop_past : {A : Type 0} (xs : List A) (i : ℕ) → slice_get xs i ≡ None → drop i xs ≡ []
 drop_past [] zero e = refl
 drop_past [] (suc i) e = refl
 drop_past (y ∷ xs) zero e = absurd (none≢some (sym e))
@@ -51,7 +52,7 @@ module _ (index : Index) (number line_number : ℕ) where
       ∙ ap (λ ps. piece_of number line_number there.line ∷ ps) (sym (ap (pieces_behind index number (suc line_number)) questions))
 
   -- without one the next question's come
-  pub pieces_past : (question : Question) → get_elem? index.questions number ≡ some question → get_elem? (question_lines index question) line_number ≡ none
+  pub pieces_past : (question : Question) → slice_get index.questions number ≡ Some question → slice_get (question_lines index question) line_number ≡ None
       → pieces_at index number line_number ≡ pieces_at index (suc number) 0
   unfolding pieces_at pieces_behind pieces_of
   pieces_past question has none_there =
@@ -133,7 +134,7 @@ module _ (file : Text) (index : Index) (from start : ℕ) (types₀ : List ℕ) 
           bytes = state.bytes ∙ sym (ap (λ l. lines_out l out₀) (sym state.rest ∙ done));
           leaves =
               record {
-                none = state.none_yet;
+                None = state.none_yet;
                 last =
                     λ h.
                     let before = state.last h in

@@ -4,10 +4,11 @@ use Prim.Native.Nat.{ℕ, suc, ◌+◌, ◌≤◌}
 use mathlib.Core.Path.{◌≡◌, refl, sym, ap, ap₂, subst, ◌∙◌}
 use mathlib.Core.Bool.{Bool, true, false}
 use mathlib.Core.List.{List, [], ◌∷◌, ◌++◌, append-nil}
-use mathlib.Core.Option.{some}
+use Rattle.std.specs.Prelude.{Some}
 use native.Mathlib.Omega.{arith}
 use lib.Dec.{ltb}
-use lib.ListN.{length, take, drop, get_elem?, length-append}
+use Rattle.std.specs.Prelude.{slice_get}
+use lib.ListN.{length, take, drop, length-append}
 use lib.Seq.{take_at}
 use Rattle.model.specs.Common.{Text, joined}
 use Rattle.model.specs.Records.{Question, Index}
@@ -80,7 +81,7 @@ part_within (x ∷ ahead) part behind [] rest other e fits = absurd (omega arith
 part_within (x ∷ ahead) part behind (y ∷ text) rest other e fits = part_within ahead part behind text rest other (same_tail e) (omega (arith, fits))
 
 module _ (file : Text) (index : Index) (loaded : load file ≡ accepted index) (place line_number : ℕ) (question : Question)
-    (has : get_elem? index.questions place ≡ some question) (line : Line) (reply : answer file place line_number ≡ Reply.the_line line) where
+    (has : slice_get index.questions place ≡ Some question) (line : Line) (reply : answer file place line_number ≡ Reply.the_line line) where
   abbrev here : LineThere index place line_number
   here =
       record {
@@ -111,8 +112,8 @@ module _ (file : Text) (index : Index) (loaded : load file ≡ accepted index) (
   -- what has these numbers is the line
   text_is : (q n : ℕ) (there : LineThere index q n) → q ≡ place → n ≡ line_number → line_text there.line ≡ line_text line
   text_is q n there at_place at_line =
-      let same_question : there.question ≡ question = some-injective (sym there.has_question ∙ ap (get_elem? index.questions) at_place ∙ has) in
-      ap line_text (some-injective (sym there.is_line ∙ ap₂ (λ x k. get_elem? (question_lines index x) k) same_question at_line ∙ here.is_line))
+      let same_question : there.question ≡ question = some-injective (sym there.has_question ∙ ap (slice_get index.questions) at_place ∙ has) in
+      ap line_text (some-injective (sym there.is_line ∙ ap₂ (λ x k. slice_get (question_lines index x) k) same_question at_line ∙ here.is_line))
 
   -- its bytes in a call that has written it
   writes_in : (from start : ℕ) (before after : Buffers) (r : LinesAnswer) → AnsweredFrom file from start before after r
@@ -168,7 +169,7 @@ module _ (file : Text) (index : Index) (loaded : load file ≡ accepted index) (
 
 -- a line that both files' questions have, at a number each
 carried : (first_file second_file : Text) (first second : Index) → load first_file ≡ accepted first → load second_file ≡ accepted second
-    → (first_place second_place : ℕ) (question : Question) → get_elem? first.questions first_place ≡ some question → get_elem? second.questions second_place ≡ some question
+    → (first_place second_place : ℕ) (question : Question) → slice_get first.questions first_place ≡ Some question → slice_get second.questions second_place ≡ Some question
     → (number other : ℕ) (line : Line) → answer first_file first_place number ≡ Reply.the_line line → answer second_file second_place other ≡ Reply.the_line line
     → CarriedOver first_file second_file first_place second_place number line
 carried first_file second_file first second first_loaded second_loaded first_place second_place question first_asked second_asked number other line reply other_reply =

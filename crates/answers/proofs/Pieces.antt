@@ -4,10 +4,11 @@ use Prim.Native.Nat.{ℕ, zero, suc, ◌+◌, ◌≤◌, ◌<◌}
 use mathlib.Core.Path.{◌≡◌, refl, sym, ap, ap₂, subst, ◌∙◌}
 use mathlib.Core.Bool.{Bool, true, false}
 use mathlib.Core.List.{List, [], ◌∷◌, ◌++◌, append_assoc, append-nil}
-use mathlib.Core.Option.{Option, none, some}
+use Rattle.std.specs.Prelude.{Option, None, Some}
 use native.Mathlib.Omega.{arith}
 use lib.Dec.{leb}
-use lib.ListN.{length, drop, get_elem?}
+use Rattle.std.specs.Prelude.{slice_get}
+use lib.ListN.{length, drop}
 use Rattle.std.specs.Prelude.{if◌then◌else◌}
 use Rattle.model.specs.Common.{Text, joined}
 use Rattle.model.specs.Records.{Question, Index}
@@ -44,20 +45,20 @@ pub all_printed : (file : Text) (index : Index) → load file ≡ accepted index
 unfolding resolve printed answers pieces_at
 all_printed file index loaded = ap printed loaded ∙ sym (behind_printed index 0 index.questions)
 
-found : {A : Type 0} (xs : List A) (i : ℕ) → i < length xs → (x : A) × (get_elem? xs i ≡ some x)
+found : {A : Type 0} (xs : List A) (i : ℕ) → i < length xs → (x : A) × (slice_get xs i ≡ Some x)
 found [] i h = absurd (omega arith)
 found (x ∷ xs) zero h = (x, refl)
 found (x ∷ xs) (suc i) h = found xs i (omega arith)
 
 -- a list that has elements, taken apart
 pub same_head : {A : Type 0} {x y : A} {xs ys : List A} → x ∷ xs ≡ y ∷ ys → x ≡ y
-same_head {x = x} {xs = xs} e = some-injective (ap (λ l. get_elem? l 0) e)
+same_head {x = x} {xs = xs} e = some-injective (ap (λ l. slice_get l 0) e)
 
 pub same_tail : {A : Type 0} {x y : A} {xs ys : List A} → x ∷ xs ≡ y ∷ ys → xs ≡ ys
 same_tail e = ap (drop 1) e
 
 not_empty : {A : Type 0} {x : A} {xs : List A} → [] ≡ x ∷ xs → ⊥
-not_empty e = none≢some (ap (λ l. get_elem? l 0) e)
+not_empty e = none≢some (ap (λ l. slice_get l 0) e)
 
 module _ (index : Index) where
   -- what comes first among pieces: it is a line of its question, and behind it come those from its next line on
@@ -71,23 +72,23 @@ module _ (index : Index) where
   first_line from line there piece pieces is rest =
       subst (λ p. First p pieces) is (record { there = there; is_piece = refl; rest_is = sym rest })
 
-  none_at : (from line : ℕ) → get_elem? index.questions from ≡ none → pieces_at index from line ≡ []
+  none_at : (from line : ℕ) → slice_get index.questions from ≡ None → pieces_at index from line ≡ []
   unfolding pieces_at pieces_behind
   none_at from line h = ap (pieces_behind index from line) (drop_past index.questions from h)
 
   first_is : (fuel from line : ℕ) (piece : Piece) (pieces : List Piece) → length index.questions ≤ from + fuel → pieces_at index from line ≡ piece ∷ pieces → First piece pieces
   first_is zero from line piece pieces enough e = absurd (not_empty (sym (pieces_end index from line (omega (arith, enough))) ∙ e))
-  first_is (suc fuel) from line piece pieces enough e = at (get_elem? index.questions from) refl (first_is fuel)
+  first_is (suc fuel) from line piece pieces enough e = at (slice_get index.questions from) refl (first_is fuel)
     where
-      at : (o : Option Question) → get_elem? index.questions from ≡ o
+      at : (o : Option Question) → slice_get index.questions from ≡ o
           → ((from line : ℕ) (piece : Piece) (pieces : List Piece) → length index.questions ≤ from + fuel → pieces_at index from line ≡ piece ∷ pieces → First piece pieces)
           → First piece pieces
-      at none h inner = absurd (not_empty (sym (none_at from line h) ∙ e))
-      at (some question) h inner = within (get_elem? (question_lines index question) line) refl
+      at None h inner = absurd (not_empty (sym (none_at from line h) ∙ e))
+      at (Some question) h inner = within (slice_get (question_lines index question) line) refl
         where
-          within : (o : Option Line) → get_elem? (question_lines index question) line ≡ o → First piece pieces
-          within none k = inner (suc from) 0 piece pieces (omega (arith, enough)) (sym (pieces_past index from line question h k) ∙ e)
-          within (some l) k =
+          within : (o : Option Line) → slice_get (question_lines index question) line ≡ o → First piece pieces
+          within None k = inner (suc from) 0 piece pieces (omega (arith, enough)) (sym (pieces_past index from line question h k) ∙ e)
+          within (Some l) k =
               let there : LineThere index from line = record { question = question; has_question = h; line = l; is_line = k } in
               let both = sym (pieces_line index from line there) ∙ e in
               first_line from line there piece pieces (same_head both) (same_tail both)
@@ -158,7 +159,7 @@ module _ (index : Index) where
     pub before : List Piece
     pub is : pieces_at index 0 0 ≡ before ++ pieces_at index number line
 
-  reach_question : (number : ℕ) (question : Question) → get_elem? index.questions number ≡ some question → Reached number 0 → Reached (suc number) 0
+  reach_question : (number : ℕ) (question : Question) → slice_get index.questions number ≡ Some question → Reached number 0 → Reached (suc number) 0
   unfolding pieces_at pieces_behind
   reach_question number question has reached =
       record {
@@ -185,7 +186,7 @@ module _ (index : Index) where
       let (question, has) = found index.questions number (omega (arith, h)) in
       reach_question number question has (reach_first number (omega (arith, h)))
 
-  pub reach : (number : ℕ) (question : Question) → get_elem? index.questions number ≡ some question → (line : ℕ) → line ≤ length (question_lines index question) → Reached number line
+  pub reach : (number : ℕ) (question : Question) → slice_get index.questions number ≡ Some question → (line : ℕ) → line ≤ length (question_lines index question) → Reached number line
   reach number question has zero h = reach_first number (omega (arith, below_length index.questions number has))
   reach number question has (suc line) h =
       let (l, is_line) = found (question_lines index question) line (omega (arith, h)) in

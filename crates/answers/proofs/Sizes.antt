@@ -5,10 +5,11 @@ use native.Mathlib.Omega.{arith}
 use mathlib.Core.Path.{◌≡◌, refl, sym, subst, ◌∙◌}
 use mathlib.Core.Bool.{Bool, true, false, false≢true}
 use mathlib.Core.List.{List, [], ◌∷◌, ◌++◌}
-use mathlib.Core.Option.{Option, none, some}
+use Rattle.std.specs.Prelude.{Option, None, Some}
 use borrow.Author.Tests.{le-leb}
 use lib.Dec.{leb}
-use lib.ListN.{length, get_elem?}
+use Rattle.std.specs.Prelude.{slice_get}
+use lib.ListN.{length}
 use Rattle.std.specs.Prelude.{if◌then◌else◌}
 use Rattle.model.specs.Common.{Text, let_some}
 use Rattle.model.specs.Records.{Question, Index}
@@ -50,20 +51,20 @@ answer_fits : (file : Text) (number line : ℕ) → AnswerFits (answer_of (answe
 unfolding answer ask_loaded answer_of line_at
 answer_fits file number line = by_loading (load file) refl
   where
-    by_line : (index : Index) (question : Question) → load file ≡ accepted index → get_elem? index.questions number ≡ some question
-        → (o : Option Line) → get_elem? (question_lines index question) line ≡ o → AnswerFits (answer_of (let_some o Reply.past_last Reply.the_line))
-    by_line index question loaded asked none is = tt
-    by_line index question loaded asked (some l) is =
+    by_line : (index : Index) (question : Question) → load file ≡ accepted index → slice_get index.questions number ≡ Some question
+        → (o : Option Line) → slice_get (question_lines index question) line ≡ o → AnswerFits (answer_of (let_some o Reply.past_last Reply.the_line))
+    by_line index question loaded asked None is = tt
+    by_line index question loaded asked (Some l) is =
         verdict_answer_fits (length (line_written l)) l.verdict (written_fits l (line_fits file index number question loaded asked line l is))
         (verdict_fits index question line l is)
 
-    by_question : (index : Index) → load file ≡ accepted index → (o : Option Question) → get_elem? index.questions number ≡ o
+    by_question : (index : Index) → load file ≡ accepted index → (o : Option Question) → slice_get index.questions number ≡ o
         → AnswerFits (answer_of (let_some o (Reply.file_refused refusal_link 0) (λ question. line_at (question_lines index question) line)))
-    by_question index loaded none is = omega arith
-    by_question index loaded (some question) is = by_line index question loaded is (get_elem? (question_lines index question) line) refl
+    by_question index loaded None is = omega arith
+    by_question index loaded (Some question) is = by_line index question loaded is (slice_get (question_lines index question) line) refl
 
     by_loading : (loading : Loading) → load file ≡ loading → AnswerFits (answer_of (ask_loaded loading number line))
-    by_loading (accepted index) loaded = by_question index loaded (get_elem? index.questions number) refl
+    by_loading (accepted index) loaded = by_question index loaded (slice_get index.questions number) refl
     by_loading (refused refusal at_line) loaded = refused_few file refusal at_line loaded
 
 -- ------------------------------------------------------------------ the lines of many questions

@@ -3,11 +3,12 @@ use Prim.Native.Nat.{ℕ, zero, suc, ◌≤◌, ◌<◌}
 use mathlib.Core.Path.{◌≡◌, refl, sym, ap, ap₂, subst, ◌∙◌}
 use mathlib.Core.Bool.{Bool, true, false}
 use mathlib.Core.List.{List, [], ◌∷◌, ◌++◌}
-use mathlib.Core.Option.{Option, none, some}
+use Rattle.std.specs.Prelude.{Option, None, Some}
 use native.Mathlib.Omega.{arith}
 use borrow.Author.Tests.{le-leb, leb-true}
 use lib.Dec.{leb}
-use lib.ListN.{length, get_elem?, length-append}
+use Rattle.std.specs.Prelude.{slice_get}
+use lib.ListN.{length, length-append}
 use Rattle.std.specs.Prelude.{if◌then◌else◌}
 use Rattle.model.specs.Common.{Text, let_some}
 use Rattle.model.specs.Records.{Index}
@@ -33,11 +34,11 @@ use Rattle.answers.proofs.Pieces.{printed_append, all_printed, Stopped, FillIs, 
 pub answers_the_line : AnswersTheLine
 unfolding answer_of answer_out written_of line_at
 answers_the_line file number line_number before after r promised index question loaded asked =
-    at (get_elem? (question_lines index question) line_number) (question_answered file number index question loaded asked line_number)
+    at (slice_get (question_lines index question) line_number) (question_answered file number index question loaded asked line_number)
   where
     at : (o : Option Line) → answer file number line_number ≡ let_some o Reply.past_last Reply.the_line → LineOr o before after r
-    at none reply = (promised.first.is ∙ ap answer_of reply, promised.first.out_is ∙ ap (λ x. answer_out x before.out) reply)
-    at (some line) reply = (promised.first.is ∙ ap answer_of reply, promised.first.out_is ∙ ap (λ x. answer_out x before.out) reply)
+    at None reply = (promised.first.is ∙ ap answer_of reply, promised.first.out_is ∙ ap (λ x. answer_out x before.out) reply)
+    at (Some line) reply = (promised.first.is ∙ ap answer_of reply, promised.first.out_is ∙ ap (λ x. answer_out x before.out) reply)
 
 -- ------------------------------------------------------------------ one call
 

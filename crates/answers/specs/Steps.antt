@@ -1,8 +1,8 @@
 -- What the functions below the public entries ask and promise. The record words are exactly those of a loaded file; the type words and the
 -- places for open demands are exactly as many as document 01 says. Definitions only; assumes nothing.
 use Rattle.std.specs.Prelude.{ℕ, suc, ◌≤◌, ◌<◌, ◌≡◌, Bool, true, false, List, [], length, replicate}
-use Rattle.std.proofs.Math.Option.{none, some}
-use Rattle.std.proofs.Math.ListN.{get_elem?}
+use Rattle.std.specs.Prelude.{None, Some}
+use Rattle.std.specs.Prelude.{slice_get}
 use Rattle.model.specs.Common.{Text}
 use Rattle.model.specs.Records.{Question, Index}
 use Rattle.model.specs.Limits.{record_words, type_words, max_open_demands, answer_bytes}
@@ -84,7 +84,7 @@ TypesAre file index asked types Tried.NoRoom = types ≡ zero_types
 pub record AskedAnswered (file : Text) (index : Index) (asked : Asked) (out types' : List ℕ) (demands' : List (List ℕ))
     (out' : List ℕ) (r : Tried) : Type 0 where
   pub v : Verdict
-  pub has : verdict index asked ≡ some v
+  pub has : verdict index asked ≡ Some v
   pub is : TriedIs (asked_lead asked) v out out' r
   pub types_are : TypesAre file index asked types' r
   pub demands_are : demands' ≡ zero_places
@@ -98,9 +98,9 @@ TypesAfter file index asked types (Verdict.refused number) = types ≡ zero_type
 -- a question's line
 pub record LineThere (index : Index) (number line_number : ℕ) : Type 0 where
   pub question : Question
-  pub has_question : get_elem? index.questions number ≡ some question
+  pub has_question : slice_get index.questions number ≡ Some question
   pub line : Line
-  pub is_line : get_elem? (question_lines index question) line_number ≡ some line
+  pub is_line : slice_get (question_lines index question) line_number ≡ Some line
 
 -- it was answered last
 pub record After (file : Text) (index : Index) (number line_number : ℕ) (types : List ℕ) (demands : List (List ℕ)) : Type 0 where
@@ -122,8 +122,8 @@ pub record NoRoomStep (index : Index) (number line_number : ℕ) (out types' : L
 -- where there is no such line all is as it was
 pub record PastStep (index : Index) (number line_number : ℕ) (types : List ℕ) (demands : List (List ℕ)) (out types' : List ℕ) (demands' : List (List ℕ)) (out' : List ℕ) : Type 0 where
   pub question : Question
-  pub has_question : get_elem? index.questions number ≡ some question
-  pub is_past : get_elem? (question_lines index question) line_number ≡ none
+  pub has_question : slice_get index.questions number ≡ Some question
+  pub is_past : slice_get (question_lines index question) line_number ≡ None
   pub types_same : types' ≡ types
   pub demands_same : demands' ≡ demands
   pub out_same : out' ≡ out
@@ -145,7 +145,7 @@ pub record LastLine (file : Text) (index : Index) (types : List ℕ) (demands : 
 -- as they were where no line was written; else as after the last one
 pub record AfterLast (file : Text) (index : Index) (bytes : ℕ) (types : List ℕ) (demands : List (List ℕ)) (types' : List ℕ)
     (demands' : List (List ℕ)) : Type 0 where
-  pub none : bytes ≡ 0 → (types' ≡ types) × (demands' ≡ demands)
+  pub None : bytes ≡ 0 → (types' ≡ types) × (demands' ≡ demands)
   pub last : 0 < bytes → LastLine file index types' demands'
 
 -- `More`: the next line was tried, and did not fit. The file is accepted

@@ -1,8 +1,8 @@
 -- What the promises say of whole answers: a question's line, the lines of repeated calls put together, and demand 3 for two calls.
 -- Statements only; they are proved in proofs/Whole.antt. Assumes nothing.
 use Rattle.std.specs.Prelude.{ℕ, ◌+◌, ◌≤◌, ◌<◌, ◌≡◌, List, ◌∷◌, ◌++◌, length, take, drop}
-use Rattle.std.proofs.Math.Option.{Option, none, some}
-use Rattle.std.proofs.Math.ListN.{get_elem?}
+use Rattle.std.specs.Prelude.{Option, None, Some}
+use Rattle.std.specs.Prelude.{slice_get}
 use Rattle.model.specs.Common.{Text, joined}
 use Rattle.model.specs.Records.{Question, Index}
 use Rattle.format.specs.Load.{Loading, accepted, load}
@@ -22,16 +22,16 @@ use Rattle.answers.specs.declared.LinesAnswer.{LinesAnswer}
 -- the definition's line at the start of the answer bytes, or the definition's refusal, for which nothing is written (`line_written`); or that there is no such
 -- line, and the answer bytes as they were
 abbrev pub LineOr : Option Line → Buffers → Buffers → LineAnswer → Type 0
-LineOr (some line) before after r =
+LineOr (Some line) before after r =
     (r ≡ verdict_answer (length (line_written line)) line.verdict) × (after.out ≡ put_first (line_written line) before.out)
-LineOr none before after r = (r ≡ LineAnswer.PastLast) × (after.out ≡ before.out)
+LineOr None before after r = (r ≡ LineAnswer.PastLast) × (after.out ≡ before.out)
 
 -- for an accepted file and a question that it has
 abbrev pub AnswersTheLine : Type 0
 AnswersTheLine =
     (file : Text) (number line_number : ℕ) (before after : Buffers) (r : LineAnswer) → Answered file number line_number before after r
-    → (index : Index) (question : Question) → load file ≡ accepted index → get_elem? index.questions number ≡ some question
-    → LineOr (get_elem? (question_lines index question) line_number) before after r
+    → (index : Index) (question : Question) → load file ≡ accepted index → slice_get index.questions number ≡ Some question
+    → LineOr (slice_get (question_lines index question) line_number) before after r
 
 -- ------------------------------------------------------------------ the lines of many questions
 

@@ -3,7 +3,7 @@ use Prim.Native.Nat.{ℕ}
 use mathlib.Core.Path.{◌≡◌, refl, sym, ap, ap₂, ◌∙◌}
 use mathlib.Core.Bool.{Bool, true, false, ◌&&◌, ◌||◌}
 use mathlib.Core.List.{List}
-use mathlib.Core.Option.{Option, none, some}
+use Rattle.std.specs.Prelude.{Option, None, Some}
 use borrow.Author.Tests.{eqb-true, eqb-false}
 use lib.Dec.{eqb}
 use Rattle.model.specs.Common.{let_some}
@@ -11,7 +11,7 @@ use Rattle.resolution.specs.TypeData.{TypeData}
 use Rattle.resolution.specs.Types.{kind_number, as_tuple, as_pointer, as_array, is_error_or_unknown}
 use Rattle.resolution.specs.Compatible.{all_pairs, both_some, compatible_rows}
 
-not_tuple : (a : TypeData) → (kind_number a ≡ 5 → ⊥) → as_tuple a ≡ none
+not_tuple : (a : TypeData) → (kind_number a ≡ 5 → ⊥) → as_tuple a ≡ None
 unfolding kind_number as_tuple
 not_tuple TypeData.Felt n = refl
 not_tuple TypeData.Bool n = refl
@@ -24,7 +24,7 @@ not_tuple (TypeData.FixedArray t size) n = refl
 not_tuple (TypeData.Struct m d fields) n = refl
 not_tuple (TypeData.Function m d params t) n = refl
 
-not_pointer : (a : TypeData) → (kind_number a ≡ 6 → ⊥) → as_pointer a ≡ none
+not_pointer : (a : TypeData) → (kind_number a ≡ 6 → ⊥) → as_pointer a ≡ None
 unfolding kind_number as_pointer
 not_pointer TypeData.Felt n = refl
 not_pointer TypeData.Bool n = refl
@@ -37,7 +37,7 @@ not_pointer (TypeData.FixedArray t size) n = refl
 not_pointer (TypeData.Struct m d fields) n = refl
 not_pointer (TypeData.Function m d params t) n = refl
 
-not_array : (a : TypeData) → (kind_number a ≡ 7 → ⊥) → as_array a ≡ none
+not_array : (a : TypeData) → (kind_number a ≡ 7 → ⊥) → as_array a ≡ None
 unfolding kind_number as_array
 not_array TypeData.Felt n = refl
 not_array TypeData.Bool n = refl
@@ -51,17 +51,17 @@ not_array (TypeData.Struct m d fields) n = refl
 not_array (TypeData.Function m d params t) n = refl
 
 -- one of two is missing
-left_none : {A : Type 0} (test : A → A → Bool) (a e : Option A) → a ≡ none → both_some test a e ≡ false
+left_none : {A : Type 0} (test : A → A → Bool) (a e : Option A) → a ≡ None → both_some test a e ≡ false
 unfolding both_some
 left_none test a e h = ap (λ o. let_some o false (λ x. let_some e false (λ y. test x y))) h
 
-right_none : {A : Type 0} (test : A → A → Bool) (a e : Option A) → e ≡ none → both_some test a e ≡ false
+right_none : {A : Type 0} (test : A → A → Bool) (a e : Option A) → e ≡ None → both_some test a e ≡ false
 unfolding both_some
-right_none test none e h = refl
-right_none test (some x) e h = ap (λ o. let_some o false (λ y. test x y)) h
+right_none test None e h = refl
+right_none test (Some x) e h = ap (λ o. let_some o false (λ y. test x y)) h
 
 -- a kind that only one has, or neither
-one_lacks : {A : Type 0} (test : A → A → Bool) (view : TypeData → Option A) (k : ℕ) → ((r : TypeData) → (kind_number r ≡ k → ⊥) → view r ≡ none)
+one_lacks : {A : Type 0} (test : A → A → Bool) (view : TypeData → Option A) (k : ℕ) → ((r : TypeData) → (kind_number r ≡ k → ⊥) → view r ≡ None)
     → (a e : TypeData) → ((kind_number a ≡ k) → (kind_number e ≡ k) → ⊥) → both_some test (view a) (view e) ≡ false
 one_lacks test view k lacks a e apart = go (eqb (kind_number a) k) refl
   where

@@ -1,6 +1,6 @@
 -- What the places of the list of open demands hold. Any words hold some demand. Definitions only.
 use Rattle.std.specs.Prelude.{ℕ, zero, suc, Bool, true, false, not, List, [], ◌∷◌, get_or, eqb}
-use Rattle.std.proofs.Math.Option.{Option, none, some}
+use Rattle.std.specs.Prelude.{Option, None, Some}
 use Rattle.model.specs.Limits.{max_open_demands}
 use Rattle.resolution.specs.Programs.{Demand}
 use Rattle.demands.specs.declared.OpenDemand.{OpenDemand}
@@ -35,8 +35,8 @@ place_at places i = of_place (get_or places i [])
 
 -- a context that may be missing
 unfoldable pub context_by : Bool → ℕ → Option ℕ
-context_by true t = some t
-context_by false t = none
+context_by true t = Some t
+context_by false t = None
 
 -- by the kind; the scope and the context stand in the same word
 unfoldable pub demand_by : ℕ → ℕ → ℕ → Option ℕ → ℕ → Demand

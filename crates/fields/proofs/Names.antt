@@ -3,7 +3,7 @@ use Prim.Native.Nat.{ℕ, ◌+◌, ◌≤◌, ◌<◌}
 use mathlib.Core.Path.{◌≡◌, refl, sym, ap, ◌∙◌}
 use mathlib.Core.List.{[], ◌∷◌}
 use mathlib.Core.Bool.{Bool, true, false, not, ◌&&◌, false≢true}
-use mathlib.Core.Option.{Option, none, some}
+use Rattle.std.specs.Prelude.{Option, None, Some}
 use native.Mathlib.Omega.{arith}
 use lib.ListN.{length, take, drop, get_or, length-drop, drop_of_length-le}
 use lib.Seq.{drop-drop}
@@ -143,11 +143,11 @@ module _ (s : Text) (p : ℕ) where
   unfolding field_as
   by_place f = ap (λ t. reading t (f field)) (behind_at s p)
 
-  not_name : is_name field ≡ false → field_as name_value (drop p s) ≡ none
+  not_name : is_name field ≡ false → field_as name_value (drop p s) ≡ None
   unfolding name_value
   not_name e = by_place name_value ∙ ap (λ b. reading (drop (p + length field) s) (only_if b (text field))) e
 
-  pub name_dash : is_dash field ≡ true → field_as name_value (drop p s) ≡ none
+  pub name_dash : is_dash field ≡ true → field_as name_value (drop p s) ≡ None
   unfolding is_name
   name_dash e = not_name (ap (λ d. leb 1 (length field) && leb (length field) 64 && all_visible field && not d) e ∙ and_false (leb 1 (length field) && leb (length field) 64 && all_visible field))
 
@@ -155,7 +155,7 @@ module _ (s : Text) (p : ℕ) where
   behind_run : drop (length run) (drop p s) ≡ drop (p + length run) s
   behind_run = drop-drop (length run) p s
 
-  pub name_hidden : is_empty (field_of (drop (p + length run) s)) ≡ false → field_as name_value (drop p s) ≡ none
+  pub name_hidden : is_empty (field_of (drop (p + length run) s)) ≡ false → field_as name_value (drop p s) ≡ None
   unfolding is_name
   name_hidden e =
       not_name
@@ -169,11 +169,11 @@ module _ (s : Text) (p : ℕ) where
     same_length : length field ≡ length run
     same_length = ap length is_named.is_run
 
-    pub name_empty : length run < 1 → field_as name_value (drop p s) ≡ none
+    pub name_empty : length run < 1 → field_as name_value (drop p s) ≡ None
     unfolding is_name
     name_empty h = not_name (ap (λ a. a && leb (length field) 64 && all_visible field && not (is_dash field)) (lt-leb 1 (length field) (omega (arith, same_length))))
 
-    pub name_long : 64 < length run → field_as name_value (drop p s) ≡ none
+    pub name_long : 64 < length run → field_as name_value (drop p s) ≡ None
     unfolding is_name
     name_long h =
         not_name
@@ -181,14 +181,14 @@ module _ (s : Text) (p : ℕ) where
         ∙ ap (λ a. a && all_visible field && not (is_dash field)) (and_false (leb 1 (length field))))
 
     pub name_is : is_dash field ≡ false → 1 ≤ length run → length run ≤ 64
-        → field_as name_value (drop p s) ≡ some (record { value = text (bytes_at s p (length run)); rest = drop (p + length run) s })
+        → field_as name_value (drop p s) ≡ Some (record { value = text (bytes_at s p (length run)); rest = drop (p + length run) s })
     unfolding is_name name_value
     name_is e least most =
         by_place name_value
         ∙ (λ i.
         reading (drop (p + same_length i) s)
         (only_if (le-leb 1 (length field) (omega (arith, same_length)) i && le-leb (length field) 64 (omega (arith, same_length)) i && is_named.is_visible i && not (e i)) (text (is_named.is_run i))))
-        ∙ ap (λ t. some (record { value = text t; rest = drop (p + length run) s })) (sym (each_part s p (length run) inside ∙ run_take (drop p s)))
+        ∙ ap (λ t. Some (record { value = text t; rest = drop (p + length run) s })) (sym (each_part s p (length run) inside ∙ run_take (drop p s)))
       where
         inside : p + length run ≤ length s
         inside = omega (arith, run_within (drop p s), length-drop p s, least)
@@ -232,25 +232,25 @@ module _ (s : Text) (e : ℕ) where
   behind_dash f q = by_place s e f ∙ ap (λ n. reading (drop (e + n) s) (f (field_of (drop e s)))) (ap length (dash_one q))
 
   pub or_dash_yes : (f : Text → Option Value) → is_dash (field_of (drop e s)) ≡ true
-      → field_as (λ t. or_dash t (f t)) (drop e s) ≡ some (record { value = absent; rest = drop (e + 1) s })
+      → field_as (λ t. or_dash t (f t)) (drop e s) ≡ Some (record { value = absent; rest = drop (e + 1) s })
   unfolding or_dash
   or_dash_yes f q =
       behind_dash (λ t. or_dash t (f t)) q
-      ∙ (λ i. reading (drop (e + 1) s) (elim (q i) [ true ↦ some absent | false ↦ f (field_of (drop e s)) ]))
+      ∙ (λ i. reading (drop (e + 1) s) (elim (q i) [ true ↦ Some absent | false ↦ f (field_of (drop e s)) ]))
 
   pub or_dash_no : (f : Text → Option Value) → is_dash (field_of (drop e s)) ≡ false → field_as (λ t. or_dash t (f t)) (drop e s) ≡ field_as f (drop e s)
   unfolding or_dash field_as
-  or_dash_no f q = λ i. reading (behind (drop e s)) (elim (q i) [ true ↦ some absent | false ↦ f (field_of (drop e s)) ])
+  or_dash_no f q = λ i. reading (behind (drop e s)) (elim (q i) [ true ↦ Some absent | false ↦ f (field_of (drop e s)) ])
 
-  pub unused_yes : is_dash (field_of (drop e s)) ≡ true → field_as (value_of Kind.Unused) (drop e s) ≡ some (record { value = absent; rest = drop (e + 1) s })
+  pub unused_yes : is_dash (field_of (drop e s)) ≡ true → field_as (value_of Kind.Unused) (drop e s) ≡ Some (record { value = absent; rest = drop (e + 1) s })
   unfolding value_of
   unused_yes q = behind_dash (value_of Kind.Unused) q ∙ ap (λ b. reading (drop (e + 1) s) (only_if b absent)) q
 
-  pub unused_no : is_dash (field_of (drop e s)) ≡ false → field_as (value_of Kind.Unused) (drop e s) ≡ none
+  pub unused_no : is_dash (field_of (drop e s)) ≡ false → field_as (value_of Kind.Unused) (drop e s) ≡ None
   unfolding value_of field_as
   unused_no q = ap (λ b. reading (behind (drop e s)) (only_if b absent)) q
 
-  pub maybe_number_yes : is_dash (field_of (drop e s)) ≡ true → field_as (value_of Kind.MaybeNumber) (drop e s) ≡ some (record { value = absent; rest = drop (e + 1) s })
+  pub maybe_number_yes : is_dash (field_of (drop e s)) ≡ true → field_as (value_of Kind.MaybeNumber) (drop e s) ≡ Some (record { value = absent; rest = drop (e + 1) s })
   unfolding value_of
   maybe_number_yes q = or_dash_yes (λ t. numbered (number_of 65535 t)) q
 
@@ -258,7 +258,7 @@ module _ (s : Text) (e : ℕ) where
   unfolding value_of
   maybe_number_no q = or_dash_no (λ t. numbered (number_of 65535 t)) q
 
-  pub maybe_name_yes : is_dash (field_of (drop e s)) ≡ true → field_as (value_of Kind.MaybeName) (drop e s) ≡ some (record { value = absent; rest = drop (e + 1) s })
+  pub maybe_name_yes : is_dash (field_of (drop e s)) ≡ true → field_as (value_of Kind.MaybeName) (drop e s) ≡ Some (record { value = absent; rest = drop (e + 1) s })
   unfolding value_of
   maybe_name_yes q = or_dash_yes name_value q
 

@@ -3,7 +3,8 @@ use Prim.Native.Nat.{ℕ, suc, ◌+◌, ◌-◌, ◌*◌, ◌≤◌, ◌<◌}
 use mathlib.Core.Path.{◌≡◌, refl, sym, ap, ◌∙◌}
 use mathlib.Core.List.{List, [], ◌∷◌}
 use mathlib.Core.Bool.{Bool, true, false, false≢true}
-use mathlib.Core.Option.{Option, none, some, none-ne-some, some-injective}
+use Rattle.std.specs.Prelude.{Option, None, Some}
+use Rattle.model.proofs.Tests.{none≢some, some-injective}
 use native.Mathlib.Omega.{arith}
 use native.Mathlib.Nat.{add-zero}
 use lib.ListN.{length, drop, get_or}
@@ -26,21 +27,21 @@ pub digit_high : (b : ℕ) → 48 ≤ b → 57 < b → is_digit b ≡ false
 digit_high b h k = rw (le-leb 48 b h, lt-leb b 57 k)
 
 -- a number never falls as its digits are read
-grows : (n m : ℕ) (t : List ℕ) → digits n t ≡ some m → n ≤ m
+grows : (n m : ℕ) (t : List ℕ) → digits n t ≡ Some m → n ≤ m
 unfolding digits
 grows n m [] q = omega (arith, some-injective n m q)
 grows n m (b ∷ t) q = by (λ h. grows (n * 10 + (b - 48)) m t h) (is_digit b) refl
   where
-    by : (digits (n * 10 + (b - 48)) t ≡ some m → n * 10 + (b - 48) ≤ m) → (d : Bool) → is_digit b ≡ d → n ≤ m
+    by : (digits (n * 10 + (b - 48)) t ≡ Some m → n * 10 + (b - 48) ≤ m) → (d : Bool) → is_digit b ≡ d → n ≤ m
     by g true e = omega (arith, g (rw (e, digits) at q))
-    by g false e = absurd (none-ne-some m (rw (e, digits) at q))
+    by g false e = absurd (none≢some {x = m} (rw (e, digits) at q))
 
-over : (n most : ℕ) (t : List ℕ) → most < n → (let_some (digits n t) none λ m. only_if (leb m most) m) ≡ none
+over : (n most : ℕ) (t : List ℕ) → most < n → (let_some (digits n t) None λ m. only_if (leb m most) m) ≡ None
 over n most t h = by (digits n t) refl
   where
-    by : (o : Option ℕ) → digits n t ≡ o → (let_some o none λ m. only_if (leb m most) m) ≡ none
-    by none e = refl
-    by (some m) e = rw (lt-leb m most (omega (arith, grows n m t e)))
+    by : (o : Option ℕ) → digits n t ≡ o → (let_some o None λ m. only_if (leb m most) m) ≡ None
+    by None e = refl
+    by (Some m) e = rw (lt-leb m most (omega (arith, grows n m t e)))
 
 -- what is left behind a field, by its place
 pub behind_at : (s : Text) (e : ℕ) → behind (drop e s) ≡ drop (e + length (field_of (drop e s))) s
@@ -48,11 +49,11 @@ unfolding behind
 behind_at s e = drop-drop (length (field_of (drop e s))) e s
 
 module _ (s : Text) (e n most : ℕ) where
-  pub scan_end : field_of (drop e s) ≡ [] → n ≤ most → scanned most n s e ≡ some (record { value = number n; rest = drop e s })
+  pub scan_end : field_of (drop e s) ≡ [] → n ≤ most → scanned most n s e ≡ Some (record { value = number n; rest = drop e s })
   unfolding scanned digits
   scan_end q h = rw (q, le-leb n most h, add-zero e)
 
-  pub scan_bad : e < length s → stops (get_or s e 0) ≡ false → is_digit (get_or s e 0) ≡ false → scanned most n s e ≡ none
+  pub scan_bad : e < length s → stops (get_or s e 0) ≡ false → is_digit (get_or s e 0) ≡ false → scanned most n s e ≡ None
   unfolding scanned digits
   scan_bad h q d = rw (field_more s e h q, d, digits)
 
@@ -64,7 +65,7 @@ module _ (s : Text) (e n most : ℕ) where
       one_on : (a b : ℕ) → a + suc b ≡ a + 1 + b
       one_on a b = omega arith
 
-  pub scan_over : e < length s → stops (get_or s e 0) ≡ false → is_digit (get_or s e 0) ≡ true → most < n * 10 + (get_or s e 0 - 48) → scanned most n s e ≡ none
+  pub scan_over : e < length s → stops (get_or s e 0) ≡ false → is_digit (get_or s e 0) ≡ true → most < n * 10 + (get_or s e 0 - 48) → scanned most n s e ≡ None
   unfolding scanned
   scan_over h q d k =
       scan_more h q d
@@ -115,7 +116,7 @@ module _ (s : Text) (e most : ℕ) where
   unfolding field_as
   number_at = ap (λ t. reading t (numbered (number_of most (field_of (drop e s))))) (behind_at s e)
 
-  pub number_none : field_of (drop e s) ≡ [] → field_as (λ u. numbered (number_of most u)) (drop e s) ≡ none
+  pub number_none : field_of (drop e s) ≡ [] → field_as (λ u. numbered (number_of most u)) (drop e s) ≡ None
   unfolding number_of plain_number
   number_none q = number_at ∙ rw q
 
@@ -124,16 +125,16 @@ module _ (s : Text) (e most : ℕ) where
   number_digits h q n = number_at ∙ rw (field_more s e h q, ne_eqb (get_or s e 0) 48 n, plain_number)
 
   pub number_zero : e < length s → stops (get_or s e 0) ≡ false → get_or s e 0 ≡ 48 → field_of (drop (e + 1) s) ≡ []
-      → field_as (λ u. numbered (number_of most u)) (drop e s) ≡ some (record { value = number 0; rest = drop (e + 1) s })
+      → field_as (λ u. numbered (number_of most u)) (drop e s) ≡ Some (record { value = number 0; rest = drop (e + 1) s })
   unfolding number_of plain_number alone
   number_zero h q z r = number_at ∙ rw (field_more s e h q, r, z, leb-zero most)
 
   pub number_after_zero : e < length s → stops (get_or s e 0) ≡ false → get_or s e 0 ≡ 48 → is_empty (field_of (drop (e + 1) s)) ≡ false
-      → field_as (λ u. numbered (number_of most u)) (drop e s) ≡ none
+      → field_as (λ u. numbered (number_of most u)) (drop e s) ≡ None
   unfolding number_of plain_number alone
   number_after_zero h q z r = number_at ∙ rw (field_more s e h q, z) (by (field_of (drop (e + 1) s)) r)
     where
       by : (t : Text) → is_empty t ≡ false
-          → reading (drop (e + suc (length t)) s) (numbered (let_some (alone t) none λ m. only_if (leb m most) m)) ≡ none
+          → reading (drop (e + suc (length t)) s) (numbered (let_some (alone t) None λ m. only_if (leb m most) m)) ≡ None
       by [] f = absurd (false≢true (sym f))
       by (b ∷ t) f = refl

@@ -3,7 +3,7 @@ use Prim.Native.Nat.{ℕ, suc, ◌+◌, ◌-◌, ◌≤◌, ◌<◌}
 use mathlib.Core.Path.{◌≡◌, refl, sym, ap, ◌∙◌}
 use mathlib.Core.List.{[], ◌∷◌}
 use mathlib.Core.Bool.{Bool, true, false}
-use mathlib.Core.Option.{Option, none, some}
+use Rattle.std.specs.Prelude.{Option, None, Some}
 use native.Mathlib.Omega.{arith}
 use lib.ListN.{length, take, drop, get_or, length-drop, drop_of_length-le}
 use borrow.Author.Tests.{eq-eqb, ne_eqb}
@@ -64,7 +64,7 @@ module _ (s : Text) (p e : ℕ) (table map : Text) (r : Found) where
 -- ------------------------------------------------------------------ a field of a kind
 
 -- no kind has an empty field
-none_empty : (k : Kind) → value_of k [] ≡ none
+none_empty : (k : Kind) → value_of k [] ≡ None
 unfolding value_of or_dash name_value is_name number_of plain_number place_in first eq_numbers is_keyword
 none_empty Kind.Nothing = refl
 none_empty Kind.Number = refl
@@ -77,11 +77,11 @@ none_empty Kind.UnaryOp = refl
 none_empty Kind.BinaryOp = refl
 none_empty Kind.Unused = refl
 
-pub empty_wrong : (k : Kind) (t : Text) → field_of t ≡ [] → field_as (value_of k) t ≡ none
+pub empty_wrong : (k : Kind) (t : Text) → field_of t ≡ [] → field_as (value_of k) t ≡ None
 unfolding field_as
 empty_wrong k t q = ap (λ u. reading (behind t) (value_of k u)) q ∙ ap (reading (behind t)) (none_empty k)
 
-pub nothing_wrong : (t : Text) → field_as (value_of Kind.Nothing) t ≡ none
+pub nothing_wrong : (t : Text) → field_as (value_of Kind.Nothing) t ≡ None
 unfolding field_as value_of
 nothing_wrong t = refl
 
@@ -102,19 +102,19 @@ module _ (t table map : Text) (x : Option Read) (is : x ≡ field_as (λ u. numb
 -- ------------------------------------------------------------------ a field behind a tab
 
 module _ (k : Kind) (s : Text) (e : ℕ) where
-  pub slot_nothing : is_nothing k ≡ true → slot k (drop e s) ≡ some (record { value = absent; rest = drop e s })
+  pub slot_nothing : is_nothing k ≡ true → slot k (drop e s) ≡ Some (record { value = absent; rest = drop e s })
   unfolding slot
-  slot_nothing q = λ i. elim (q i) [ true ↦ some (record { value = absent; rest = drop e s }) | false ↦ slot_field k (drop e s) ]
+  slot_nothing q = λ i. elim (q i) [ true ↦ Some (record { value = absent; rest = drop e s }) | false ↦ slot_field k (drop e s) ]
 
   slot_some : is_nothing k ≡ false → slot k (drop e s) ≡ slot_field k (drop e s)
   unfolding slot
-  slot_some q = λ i. elim (q i) [ true ↦ some (record { value = absent; rest = drop e s }) | false ↦ slot_field k (drop e s) ]
+  slot_some q = λ i. elim (q i) [ true ↦ Some (record { value = absent; rest = drop e s }) | false ↦ slot_field k (drop e s) ]
 
-  pub slot_out : is_nothing k ≡ false → length s ≤ e → slot k (drop e s) ≡ none
+  pub slot_out : is_nothing k ≡ false → length s ≤ e → slot k (drop e s) ≡ None
   unfolding slot_field behind_tab
   slot_out q h = slot_some q ∙ rw (drop_of_length-le s h)
 
-  pub slot_no_tab : is_nothing k ≡ false → e < length s → (get_or s e 0 ≡ 9 → ⊥) → slot k (drop e s) ≡ none
+  pub slot_no_tab : is_nothing k ≡ false → e < length s → (get_or s e 0 ≡ 9 → ⊥) → slot k (drop e s) ≡ None
   unfolding slot_field behind_tab
   slot_no_tab q h n = slot_some q ∙ rw (here s e h, ne_eqb (get_or s e 0) 9 n, behind_tab)
 
@@ -125,33 +125,33 @@ module _ (k : Kind) (s : Text) (e : ℕ) where
 -- ------------------------------------------------------------------ what the definition reads where the code has read a field, and where it has not
 
 module _ (s t : Text) (k : Kind) (r : Slot) (q : slot_is s r ≡ slot k t) where
-  pub slot_found : (v : held.Value) (e : ℕ) → r ≡ Slot.Is v e → slot k t ≡ some (record { value = value_is s v; rest = drop e s })
+  pub slot_found : (v : held.Value) (e : ℕ) → r ≡ Slot.Is v e → slot k t ≡ Some (record { value = value_is s v; rest = drop e s })
   slot_found v e h = sym q ∙ ap (slot_is s) h
 
-  pub slot_lost : r ≡ Slot.Wrong → slot k t ≡ none
+  pub slot_lost : r ≡ Slot.Wrong → slot k t ≡ None
   slot_lost h = sym q ∙ ap (slot_is s) h
 
 -- ------------------------------------------------------------------ a word behind a tab
 
 module _ (s : Text) (e : ℕ) where
-  pub word_out : length s ≤ e → word_here (drop e s) ≡ none
+  pub word_out : length s ≤ e → word_here (drop e s) ≡ None
   unfolding word_here behind_tab
   word_out h = rw (drop_of_length-le s h)
 
-  pub word_no_tab : e < length s → (get_or s e 0 ≡ 9 → ⊥) → word_here (drop e s) ≡ none
+  pub word_no_tab : e < length s → (get_or s e 0 ≡ 9 → ⊥) → word_here (drop e s) ≡ None
   unfolding word_here behind_tab
   word_no_tab h n = rw (here s e h, ne_eqb (get_or s e 0) 9 n, behind_tab)
 
   pub word_found : (x : ℕ) → e < length s → get_or s e 0 ≡ 9 → x ≡ e + 1 + length (field_of (drop (e + 1) s))
-      → word_here (drop e s) ≡ some (record { word = take (x - (e + 1)) (drop (e + 1) s); rest = drop x s })
+      → word_here (drop e s) ≡ Some (record { word = take (x - (e + 1)) (drop (e + 1) s); rest = drop x s })
   unfolding word_here behind_tab
   word_found x h n q =
       behind_the_tab
       ∙ sym
-      (ap (λ m. some (record { word = take m (drop (e + 1) s); rest = drop x s })) same_length
-      ∙ (λ i. some (record { word = field_take (drop (e + 1) s) i; rest = (ap (λ m. drop m s) q ∙ sym (behind_at s (e + 1))) i })))
+      (ap (λ m. Some (record { word = take m (drop (e + 1) s); rest = drop x s })) same_length
+      ∙ (λ i. Some (record { word = field_take (drop (e + 1) s) i; rest = (ap (λ m. drop m s) q ∙ sym (behind_at s (e + 1))) i })))
     where
-      behind_the_tab : word_here (drop e s) ≡ some (record { word = field_of (drop (e + 1) s); rest = behind (drop (e + 1) s) })
+      behind_the_tab : word_here (drop e s) ≡ Some (record { word = field_of (drop (e + 1) s); rest = behind (drop (e + 1) s) })
       behind_the_tab = rw (here s e h, eq-eqb (get_or s e 0) 9 n, behind_tab)
 
       same_length : x - (e + 1) ≡ length (field_of (drop (e + 1) s))

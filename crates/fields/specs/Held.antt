@@ -1,6 +1,6 @@
 -- What the answers stand for: a text is a part of the file s, and what is left of a line is where that begins. Assumes nothing.
 use Rattle.std.specs.Prelude.{ℕ, ◌+◌, ◌-◌, ◌≤◌, ◌≡◌, true, false, ◌&&◌, [], ◌∷◌, leb, length, take, drop}
-use Rattle.std.proofs.Math.Option.{Option, none, some}
+use Rattle.std.specs.Prelude.{Option, None, Some}
 use Rattle.model.specs.Common.{Text, let_some}
 use Rattle.records.specs.Layout.{bytes_at}
 use Rattle.format.specs.Fields as format
@@ -15,12 +15,12 @@ value_is s (Value.Number n) = format.Value.number n
 value_is s (Value.Text p n) = format.Value.text (bytes_at s p n)
 
 abbrev pub slot_is : Text → Slot → Option format.Read
-slot_is s (Slot.Is v e) = some (record { value = value_is s v; rest = drop e s })
-slot_is s Slot.Wrong = none
+slot_is s (Slot.Is v e) = Some (record { value = value_is s v; rest = drop e s })
+slot_is s Slot.Wrong = None
 
 abbrev pub word_is : Text → Word → Option lines.WordRead
-word_is s (Word.Is p e) = some (record { word = take (e - p) (drop p s); rest = drop e s })
-word_is s Word.Wrong = none
+word_is s (Word.Is p e) = Some (record { word = take (e - p) (drop p s); rest = drop e s })
+word_is s Word.Wrong = None
 
 -- so that the word can be lent as a part of the file
 abbrev pub Inside : Text → Word → Type 0
@@ -40,7 +40,7 @@ field_as f t = format.reading (format.behind t) (f (format.field_of t))
 unfoldable pub scanned : ℕ → ℕ → Text → ℕ → Option format.Read
 scanned most n s e =
     format.reading (drop (e + length (format.field_of (drop e s))) s)
-    (format.numbered (let_some (format.digits n (format.field_of (drop e s))) none λ m. format.only_if (leb m most) m))
+    (format.numbered (let_some (format.digits n (format.field_of (drop e s))) None λ m. format.only_if (leb m most) m))
 
 -- the bytes from 21 to 7E that stand here, up to the first other one
 unfoldable pub visible_run : Text → Text

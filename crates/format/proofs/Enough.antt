@@ -5,7 +5,7 @@ use native.Mathlib.Nat.{not-suc-le-zero}
 use mathlib.Core.Path.{◌≡◌, refl, ap}
 use mathlib.Core.Bool.{Bool, true, false}
 use mathlib.Core.List.{[], ◌∷◌}
-use mathlib.Core.Option.{Option, none, some}
+use Rattle.std.specs.Prelude.{Option, None, Some}
 use lib.Dec.{eqb}
 use lib.ListN.{length, length-drop}
 use Rattle.model.specs.Common.{is_empty, Text, let_some}
@@ -34,7 +34,7 @@ unfolding behind_tab
 tab_shorter [] = nothing
 tab_shorter (b ∷ t) = of (eqb b 9)
   where
-    of : (tab : Bool) → Every (λ (u : Text). suc (length u) ≤ suc (length t)) (elim tab [ true ↦ some t | false ↦ none ])
+    of : (tab : Bool) → Every (λ (u : Text). suc (length u) ≤ suc (length t)) (elim tab [ true ↦ Some t | false ↦ None ])
     of true = this t (omega arith)
     of false = nothing
 
@@ -43,8 +43,8 @@ unfolding slot_field
 field_shorter k t = every_then (tab_shorter t) λ u less. of u less (value_of k (field_of u))
   where
     of : (u : Text) → suc (length u) ≤ length t → (v : Option Value) → Every (λ (r : Read). suc (length r.rest) ≤ length t) (reading (behind u) v)
-    of u less none = nothing
-    of u less (some v) = this (record { value = v; rest = behind u }) (omega (arith, behind_shorter u))
+    of u less None = nothing
+    of u less (Some v) = this (record { value = v; rest = behind u }) (omega (arith, behind_shorter u))
 
 weaker : {A : Type 0} {P Q : A → Type 0} {o : Option A} → ((x : A) → P x → Q x) → Every P o → Every Q o
 weaker f nothing = nothing
@@ -55,7 +55,7 @@ pub slot_shorter : (k : Kind) (t : Text) → Every (λ (r : Read). length r.rest
 unfolding slot
 slot_shorter k t = of (is_nothing k)
   where
-    of : (b : Bool) → Every (λ (r : Read). length r.rest ≤ length t) (elim b [ true ↦ some (record { value = absent; rest = t }) | false ↦ slot_field k t ])
+    of : (b : Bool) → Every (λ (r : Read). length r.rest ≤ length t) (elim b [ true ↦ Some (record { value = absent; rest = t }) | false ↦ slot_field k t ])
     of true = this (record { value = absent; rest = t }) (omega arith)
     of false = weaker (λ r h. omega arith) (field_shorter k t)
 
@@ -70,7 +70,7 @@ first_shorter Listed.MaybeNumbers t = field_shorter Kind.MaybeNumber t
 first_shorter Listed.Fields t = field_shorter Kind.Name t
 
 then_same : {A B : Type 0} {P : A → Type 0} {o : Option A} {k k' : A → Option B} → Every P o → ((x : A) → P x → k x ≡ k' x)
-    → let_some o none k ≡ let_some o none k'
+    → let_some o None k ≡ let_some o None k'
 then_same nothing f = refl
 then_same (this x p) f = f x p
 
@@ -79,15 +79,15 @@ unfolding items_within
 items_same zero n' l t h h' = absurd (not-suc-le-zero h)
 items_same (suc n) zero l t h h' = absurd (not-suc-le-zero h')
 items_same (suc n) (suc n') l t h h' =
-    λ i. elim (at_end t) [ true ↦ some (no_items t) | false ↦ fields (λ u k k'. items_same n n' l u k k') i ]
+    λ i. elim (at_end t) [ true ↦ Some (no_items t) | false ↦ fields (λ u k k'. items_same n n' l u k k') i ]
   where
     fields : ((u : Text) → length u < n → length u < n' → items_within n l u ≡ items_within n' l u)
-        → (let_some (slot (first_kind l) t) none λ x. let_some (slot (second_kind l) x.rest) none λ y. let_some (items_within n l y.rest) none λ r. some (with_item x.value y.value r))
-        ≡ (let_some (slot (first_kind l) t) none λ x. let_some (slot (second_kind l) x.rest) none λ y. let_some (items_within n' l y.rest) none λ r. some (with_item x.value y.value r))
+        → (let_some (slot (first_kind l) t) None λ x. let_some (slot (second_kind l) x.rest) None λ y. let_some (items_within n l y.rest) None λ r. Some (with_item x.value y.value r))
+        ≡ (let_some (slot (first_kind l) t) None λ x. let_some (slot (second_kind l) x.rest) None λ y. let_some (items_within n' l y.rest) None λ r. Some (with_item x.value y.value r))
     fields rest =
         then_same (first_shorter l t) λ x p.
         then_same (slot_shorter (second_kind l) x.rest) λ y q.
-        ap (λ (o : Option Items). let_some o none λ r. some (with_item x.value y.value r)) (rest y.rest (omega arith) (omega arith))
+        ap (λ (o : Option Items). let_some o None λ r. Some (with_item x.value y.value r)) (rest y.rest (omega arith) (omega arith))
 
 -- the bytes that are left bound the items
 pub items_enough : (more : ℕ) (l : Listed) (t : Text) → items_within (suc (length t) + more) l t ≡ items_within (suc (length t)) l t
@@ -103,11 +103,11 @@ items_shorter (suc n) l t = of (λ u. items_shorter n l u) (at_end t)
     of : ((u : Text) → Every (λ (r : Items). length r.rest ≤ length u) (items_within n l u)) → (b : Bool)
         → Every (λ (r : Items). length r.rest ≤ length t)
         (elim b [
-          | true ↦ some (no_items t)
+          | true ↦ Some (no_items t)
           | false ↦
-              let_some (slot (first_kind l) t) none λ x.
-              let_some (slot (second_kind l) x.rest) none λ y.
-              let_some (items_within n l y.rest) none λ r. some (with_item x.value y.value r)
+              let_some (slot (first_kind l) t) None λ x.
+              let_some (slot (second_kind l) x.rest) None λ y.
+              let_some (items_within n l y.rest) None λ r. Some (with_item x.value y.value r)
         ])
     of rest true = this (no_items t) (omega arith)
     of rest false =
@@ -120,7 +120,7 @@ unfolding items
 list_shorter l t = of (is_empty_list l) (at_end t)
   where
     of : (b end : Bool) → Every (λ (r : Items). length r.rest ≤ length t)
-        (elim b [ true ↦ elim end [ true ↦ some (no_items t) | false ↦ none ] | false ↦ items_within (suc (length t)) l t ])
+        (elim b [ true ↦ elim end [ true ↦ Some (no_items t) | false ↦ None ] | false ↦ items_within (suc (length t)) l t ])
     of true true = this (no_items t) (omega arith)
     of true false = nothing
     of false end = items_shorter (suc (length t)) l t

@@ -4,9 +4,10 @@ use native.Mathlib.Omega.{arith}
 use mathlib.Core.Path.{◌≡◌, refl, sym, ◌∙◌, ap, subst}
 use mathlib.Core.Bool.{true, false, not, false≢true}
 use mathlib.Core.List.{List, [], ◌∷◌, ◌++◌}
-use mathlib.Core.Option.{Option, none, some}
+use Rattle.std.specs.Prelude.{Option, None, Some}
 use mathlib.Core.Logic.{◌⊎◌, inl, inr, ⊎_elim}
-use lib.ListN.{length, get_elem?, length-append}
+use Rattle.std.specs.Prelude.{slice_get}
+use lib.ListN.{length, length-append}
 use Rattle.model.specs.Common.{let_some, is_none, first, total, eq_numbers}
 use Rattle.model.specs.Records.{Name, Module, Index}
 use Rattle.model.specs.Lookups.{module_named, module_by_name}
@@ -47,7 +48,7 @@ all_append : {A : Type 0} (P : A → Type 0) (xs : List A) (x : A) → All P xs 
 all_append P [] x h p = (p, tt)
 all_append P (y ∷ ys) x (q, h) p = (q, all_append P ys x h p)
 
-pub all_at : {A : Type 0} (P : A → Type 0) (xs : List A) (n : ℕ) (x : A) → All P xs → get_elem? xs n ≡ some x → P x
+pub all_at : {A : Type 0} (P : A → Type 0) (xs : List A) (n : ℕ) (x : A) → All P xs → slice_get xs n ≡ Some x → P x
 all_at P [] n x h e = absurd (none≢some e)
 all_at P (y ∷ ys) zero x (p, h) e = subst P (some-injective e) p
 all_at P (y ∷ ys) (suc n) x (p, h) e = all_at P ys n x h e
@@ -61,15 +62,15 @@ all_on_last P f keep (m ∷ m' ∷ ms) (p, h) = (p, all_on_last P f keep (m' ∷
 -- ------------------------------------------------------------------ names
 
 abbrev name_at : List Module → ℕ → Option Name
-name_at ms m = let_some (get_elem? ms m) none (λ the_module. some the_module.name)
+name_at ms m = let_some (slice_get ms m) None (λ the_module. Some the_module.name)
 
 abbrev pub NamesDiffer : List Module → Type 0
-NamesDiffer ms = (m m' : ℕ) (name : Name) → name_at ms m ≡ some name → name_at ms m' ≡ some name → m ≡ m'
+NamesDiffer ms = (m m' : ℕ) (name : Name) → name_at ms m ≡ Some name → name_at ms m' ≡ Some name → m ≡ m'
 
 names_on_last : (f : Module → Module) → ((m : Module) → (f m).name ≡ m.name) → (ms : List Module) (m : ℕ) → name_at (on_last f ms) m ≡ name_at ms m
 unfolding on_last
 names_on_last f keep [] m = refl
-names_on_last f keep (x ∷ []) zero = ap (λ (n : Name). some n) (keep x)
+names_on_last f keep (x ∷ []) zero = ap (λ (n : Name). Some n) (keep x)
 names_on_last f keep (x ∷ []) (suc m) = refl
 names_on_last f keep (x ∷ y ∷ ms) zero = refl
 names_on_last f keep (x ∷ y ∷ ms) (suc m) = names_on_last f keep (y ∷ ms) m
@@ -83,35 +84,35 @@ has_name : (name : Name) (the_module : Module) → the_module.name ≡ name → 
 unfolding module_named
 has_name name the_module h = ap (λ n. eq_numbers n name) h ∙ eq_numbers_self name
 
-not_again : (name : Name) (index : Index) → is_again (a_module name) index ≡ false → (m : ℕ) → name_at index.modules m ≡ some name → ⊥
+not_again : (name : Name) (index : Index) → is_again (a_module name) index ≡ false → (m : ℕ) → name_at index.modules m ≡ Some name → ⊥
 unfolding is_again module_by_name
 not_again name index new m e =
-    let (the_module, at, is_named) = some_of (get_elem? index.modules m) (λ r. some r.name) name e in
+    let (the_module, at, is_named) = some_of (slice_get index.modules m) (λ r. Some r.name) name e in
     false≢true
     (sym (first_none_fails (module_named name) index.modules (is_none_of (first (module_named name) index.modules) new) m)
     ∙ some_passes (module_named name) at (has_name name the_module (some-injective is_named)))
   where
-    is_none_of : (o : Option ℕ) → not (is_none o) ≡ false → o ≡ none
-    is_none_of none h = refl
-    is_none_of (some n) h = absurd (false≢true (sym h))
+    is_none_of : (o : Option ℕ) → not (is_none o) ≡ false → o ≡ None
+    is_none_of None h = refl
+    is_none_of (Some n) h = absurd (false≢true (sym h))
 
-differ_append : (name : Name) (ms : List Module) → ((m : ℕ) → name_at ms m ≡ some name → ⊥) → NamesDiffer ms → NamesDiffer (ms ++ (empty_module name ∷ []))
+differ_append : (name : Name) (ms : List Module) → ((m : ℕ) → name_at ms m ≡ Some name → ⊥) → NamesDiffer ms → NamesDiffer (ms ++ (empty_module name ∷ []))
 differ_append name ms new differ m m' n e e' =
     ⊎_elim
-    (λ old. ⊎_elim (λ old'. differ m m' n old old') (λ added'. absurd (new m (old ∙ ap (λ (x : Name). some x) (sym added'.1)))) (at m' e'))
+    (λ old. ⊎_elim (λ old'. differ m m' n old old') (λ added'. absurd (new m (old ∙ ap (λ (x : Name). Some x) (sym added'.1)))) (at m' e'))
     (λ added.
     ⊎_elim
-    (λ old'. absurd (new m' (old' ∙ ap (λ (x : Name). some x) (sym added.1))))
+    (λ old'. absurd (new m' (old' ∙ ap (λ (x : Name). Some x) (sym added.1))))
     (λ added'. added.0 ∙ sym added'.0)
     (at m' e'))
     (at m e)
   where
     -- an old module of that name, or the new one
-    at : (k : ℕ) → name_at (ms ++ (empty_module name ∷ [])) k ≡ some n → (name_at ms k ≡ some n) ⊎ ((k ≡ length ms) × (name ≡ n))
+    at : (k : ℕ) → name_at (ms ++ (empty_module name ∷ [])) k ≡ Some n → (name_at ms k ≡ Some n) ⊎ ((k ≡ length ms) × (name ≡ n))
     at k h =
-        let (the_module, found, is_named) = some_of (get_elem? (ms ++ (empty_module name ∷ [])) k) (λ r. some r.name) n h in
+        let (the_module, found, is_named) = some_of (slice_get (ms ++ (empty_module name ∷ [])) k) (λ r. Some r.name) n h in
         ⊎_elim
-        (λ old. inl (ap (λ o. let_some o none (λ r. some r.name)) old ∙ is_named))
+        (λ old. inl (ap (λ o. let_some o None (λ r. Some r.name)) old ∙ is_named))
         (λ added. inr (added.0, ap (λ r. r.name) added.1 ∙ some-injective is_named))
         (getElem_snoc ms (empty_module name) the_module k found)
 

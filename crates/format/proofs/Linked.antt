@@ -4,9 +4,10 @@ use native.Mathlib.Omega.{arith}
 use mathlib.Core.Path.{◌≡◌, refl, sym, ◌∙◌, ap, subst}
 use mathlib.Core.Bool.{Bool, true, false, not, ◌&&◌, ◌||◌, false≢true}
 use mathlib.Core.List.{List, [], ◌∷◌, ◌++◌, map, Memᴰ}
-use mathlib.Core.Option.{Option, none, some}
+use Rattle.std.specs.Prelude.{Option, None, Some}
 use lib.Dec.{ltb}
-use lib.ListN.{length, get_elem?}
+use Rattle.std.specs.Prelude.{slice_get}
+use lib.ListN.{length}
 use Rattle.model.specs.Common.{is_empty, let_some, next, first}
 use Rattle.model.specs.Records.{Scope, TypeExpr, Definition, ExpressionInfo, Module, Question, Index}
 use Rattle.model.specs.Lookups.{module_at, scope_at, type_expr_at, definition_at, expression_at, parent}
@@ -22,14 +23,14 @@ abbrev AllTrue : List Bool → Type 0
 AllTrue [] = Unit {0}
 AllTrue (b ∷ bs) = (b ≡ true) × AllTrue bs
 
-none_false : (bs : List Bool) → first not bs ≡ none → AllTrue bs
+none_false : (bs : List Bool) → first not bs ≡ None → AllTrue bs
 unfolding first
 none_false [] e = tt
 none_false (true ∷ bs) e = (refl, none_false bs (next_none (first not bs) e))
   where
-    next_none : (o : Option ℕ) → next o ≡ none → o ≡ none
-    next_none none e = refl
-    next_none (some n) e = absurd (none≢some (sym e))
+    next_none : (o : Option ℕ) → next o ≡ None → o ≡ None
+    next_none None e = refl
+    next_none (Some n) e = absurd (none≢some (sym e))
 none_false (false ∷ bs) e = absurd (none≢some (sym e))
 
 true_left : (cs bs : List Bool) → AllTrue (cs ++ bs) → AllTrue cs
@@ -40,12 +41,12 @@ true_right : (cs bs : List Bool) → AllTrue (cs ++ bs) → AllTrue bs
 true_right [] bs h = h
 true_right (c ∷ cs) bs (e, h) = true_right cs bs h
 
-map_at : {A : Type 0} (test : A → Bool) (xs : List A) (n : ℕ) (x : A) → AllTrue (map test xs) → get_elem? xs n ≡ some x → test x ≡ true
+map_at : {A : Type 0} (test : A → Bool) (xs : List A) (n : ℕ) (x : A) → AllTrue (map test xs) → slice_get xs n ≡ Some x → test x ≡ true
 map_at test [] n x h e = absurd (none≢some e)
 map_at test (y ∷ ys) zero x (p, h) e = ap test (sym (some-injective e)) ∙ p
 map_at test (y ∷ ys) (suc n) x (p, h) e = map_at test ys n x h e
 
-map_from_at : {A : Type 0} (test : ℕ → A → Bool) (k : ℕ) (xs : List A) (n : ℕ) (x : A) → AllTrue (map_from test k xs) → get_elem? xs n ≡ some x
+map_from_at : {A : Type 0} (test : ℕ → A → Bool) (k : ℕ) (xs : List A) (n : ℕ) (x : A) → AllTrue (map_from test k xs) → slice_get xs n ≡ Some x
     → test (k + n) x ≡ true
 unfolding map_from
 map_from_at test k [] n x h e = absurd (none≢some e)
@@ -92,25 +93,25 @@ module_linked m (started, h) =
       expressions = true_right (map (definition_linked m) m.definitions) _ h₂;
     }
 
-module_at_linked : (ms : List Module) (n : ℕ) (m : Module) → AllTrue (modules_lines ms) → get_elem? ms n ≡ some m → ModuleLinked m
+module_at_linked : (ms : List Module) (n : ℕ) (m : Module) → AllTrue (modules_lines ms) → slice_get ms n ≡ Some m → ModuleLinked m
 unfolding modules_lines
 module_at_linked [] n m h e = absurd (none≢some e)
 module_at_linked (m' ∷ ms) zero m h e = subst ModuleLinked (some-injective e) (module_linked m' (true_left (module_lines m') (modules_lines ms) h))
 module_at_linked (m' ∷ ms) (suc n) m h e = module_at_linked ms n m (true_right (module_lines m') (modules_lines ms) h) e
 
 module _ (the_module : Module) (linked : ModuleLinked the_module) where
-  parent_linked : (s : ℕ) (scope : Scope) → scope_at the_module s ≡ some scope → parent_ok s scope.parent ≡ true
+  parent_linked : (s : ℕ) (scope : Scope) → scope_at the_module s ≡ Some scope → parent_ok s scope.parent ≡ true
   unfolding scope_linked
   parent_linked s scope e =
       subst (λ k. parent_ok k scope.parent ≡ true) (omega arith) (map_from_at scope_linked 0 the_module.scopes s scope linked.scopes e)
 
-  parent_lower : (s p : ℕ) (scope : Scope) → scope_at the_module s ≡ some scope → scope.parent ≡ some p → p < s
+  parent_lower : (s p : ℕ) (scope : Scope) → scope_at the_module s ≡ Some scope → scope.parent ≡ Some p → p < s
   parent_lower s p scope e is_parent = ltb_lt p s (subst (λ o. parent_ok s o ≡ true) is_parent (parent_linked s scope e))
 
-  root_first : (s : ℕ) (scope : Scope) → scope_at the_module s ≡ some scope → scope.parent ≡ none → s ≡ 0
+  root_first : (s : ℕ) (scope : Scope) → scope_at the_module s ≡ Some scope → scope.parent ≡ None → s ≡ 0
   root_first s scope e is_root = eqb_sound s 0 (subst (λ o. parent_ok s o ≡ true) is_root (parent_linked s scope e))
 
-  type_lower : (t u : ℕ) (type : TypeExpr) → type_expr_at the_module t ≡ some type → Memᴰ u (type_types type) → u < t
+  type_lower : (t u : ℕ) (type : TypeExpr) → type_expr_at the_module t ≡ Some type → Memᴰ u (type_types type) → u < t
   unfolding type_linked
   type_lower t u type e named =
       below_of t u (type_types type)
@@ -122,20 +123,20 @@ module _ (the_module : Module) (linked : ModuleLinked the_module) where
       let (scope, found) = first_scope the_module.scopes linked.started in
       record { scope = scope; found = found; no_parent = no_parent scope.parent (parent_linked 0 scope found) }
     where
-      first_scope : (scopes : List Scope) → not (is_empty scopes) ≡ true → (scope : Scope) × (get_elem? scopes 0 ≡ some scope)
+      first_scope : (scopes : List Scope) → not (is_empty scopes) ≡ true → (scope : Scope) × (slice_get scopes 0 ≡ Some scope)
       first_scope [] e = absurd (false≢true e)
       first_scope (scope ∷ scopes) e = (scope, refl)
 
-      no_parent : (o : Option ℕ) → parent_ok 0 o ≡ true → o ≡ none
-      no_parent none e = refl
-      no_parent (some p) e = absurd (let h = ltb_lt p 0 e in omega arith)
+      no_parent : (o : Option ℕ) → parent_ok 0 o ≡ true → o ≡ None
+      no_parent None e = refl
+      no_parent (Some p) e = absurd (let h = ltb_lt p 0 e in omega arith)
 
   parents_lower : ParentsLower the_module
   unfolding parent
   parents_lower s p e =
       let (scope, at, is_parent) = some_of (scope_at the_module s) (λ r. r.parent) p e in parent_lower s p scope at is_parent
 
-  module _ (d : ℕ) (definition : Definition) (at : definition_at the_module d ≡ some definition) where
+  module _ (d : ℕ) (definition : Definition) (at : definition_at the_module d ≡ Some definition) where
     definition_passes : definition_linked the_module definition ≡ true
     definition_passes = map_at (definition_linked the_module) the_module.definitions d definition linked.definitions at
 
@@ -157,7 +158,7 @@ module _ (the_module : Module) (linked : ModuleLinked the_module) where
         (and_right (all_below (length the_module.types) (definition_types definition.kind)) _ (and_right (ltb definition.scope (length the_module.scopes)) _ definition_passes))
         named
 
-  module _ (e : ℕ) (expression : ExpressionInfo) (at : expression_at the_module e ≡ some expression) where
+  module _ (e : ℕ) (expression : ExpressionInfo) (at : expression_at the_module e ≡ Some expression) where
     expression_passes : expression_linked the_module expression ≡ true
     expression_passes = map_at (expression_linked the_module) the_module.expressions e expression linked.expressions at
 
@@ -193,29 +194,29 @@ module _ (the_module : Module) (linked : ModuleLinked the_module) where
 -- ------------------------------------------------------------------ the index
 
 -- a record of a module that is there
-present_in : {A : Type 0} {o : Option Module} {the_module : Module} → o ≡ some the_module → (f : Module → List A) (n : ℕ) → n < length (f the_module)
-    → Present (let_some o none (λ r. get_elem? (f r) n))
+present_in : {A : Type 0} {o : Option Module} {the_module : Module} → o ≡ Some the_module → (f : Module → List A) (n : ℕ) → n < length (f the_module)
+    → Present (let_some o None (λ r. slice_get (f r) n))
 present_in {the_module = the_module} here f n less =
-    let (x, found) = getElem_there (f the_module) n less in (x, ap (λ o. let_some o none (λ r. get_elem? (f r) n)) here ∙ found)
+    let (x, found) = getElem_there (f the_module) n less in (x, ap (λ o. let_some o None (λ r. slice_get (f r) n)) here ∙ found)
 
-module _ (index : Index) (no_fault : link_fault index ≡ none) where
+module _ (index : Index) (no_fault : link_fault index ≡ None) where
   all_linked : AllTrue (linked_lines index)
   unfolding link_fault
   all_linked = none_false (linked_lines index) (none_of (first not (linked_lines index)) no_fault)
     where
-      none_of : (o : Option ℕ) → let_some o none (λ n. some (2 + n)) ≡ none → o ≡ none
-      none_of none e = refl
-      none_of (some n) e = absurd (none≢some (sym e))
+      none_of : (o : Option ℕ) → let_some o None (λ n. Some (2 + n)) ≡ None → o ≡ None
+      none_of None e = refl
+      none_of (Some n) e = absurd (none≢some (sym e))
 
   -- a module's links lead
-  at_module : (m : ℕ) (the_module : Module) → module_at index m ≡ some the_module → ModuleLinked the_module
+  at_module : (m : ℕ) (the_module : Module) → module_at index m ≡ Some the_module → ModuleLinked the_module
   unfolding linked_lines
   at_module m the_module here =
       module_at_linked index.modules m the_module (true_left (modules_lines index.modules) (map (question_linked index) index.questions) all_linked) here
 
   -- a record that is found is its module's
-  in_its_module : {A : Type 0} (m : ℕ) (f : Module → Option A) (x : A) → let_some (module_at index m) none f ≡ some x
-      → (the_module : Module) × (module_at index m ≡ some the_module) × (f the_module ≡ some x) × ModuleLinked the_module
+  in_its_module : {A : Type 0} (m : ℕ) (f : Module → Option A) (x : A) → let_some (module_at index m) None f ≡ Some x
+      → (the_module : Module) × (module_at index m ≡ Some the_module) × (f the_module ≡ Some x) × ModuleLinked the_module
   in_its_module m f x e =
       let (the_module, here, at) = some_of (module_at index m) f x e in (the_module, here, at, at_module m the_module here)
 
@@ -262,36 +263,36 @@ module _ (index : Index) (no_fault : link_fault index ≡ none) where
             present_in here (λ r. r.expressions) g (expression_expression the_module linked f expression at g named);
       }
 
-  pub root_there : (m : ℕ) (the_module : Module) → module_at index m ≡ some the_module → HasRoot the_module
+  pub root_there : (m : ℕ) (the_module : Module) → module_at index m ≡ Some the_module → HasRoot the_module
   root_there m the_module here = has_root the_module (at_module m the_module here)
 
-  pub root_alone : (m s : ℕ) (scope : Scope) → scope_in index m s ≡ some scope → scope.parent ≡ none → s ≡ 0
+  pub root_alone : (m s : ℕ) (scope : Scope) → scope_in index m s ≡ Some scope → scope.parent ≡ None → s ≡ 0
   root_alone m s scope e is_root =
       let (the_module, here, at, linked) = in_its_module m (λ r. scope_at r s) scope e in root_first the_module linked s scope at is_root
 
-  pub all_parents_lower : (m : ℕ) (the_module : Module) → module_at index m ≡ some the_module → ParentsLower the_module
+  pub all_parents_lower : (m : ℕ) (the_module : Module) → module_at index m ≡ Some the_module → ParentsLower the_module
   all_parents_lower m the_module here = parents_lower the_module (at_module m the_module here)
 
-  pub all_types_earlier : (m t u : ℕ) (type : TypeExpr) → type_in index m t ≡ some type → Memᴰ u (type_types type) → u < t
+  pub all_types_earlier : (m t u : ℕ) (type : TypeExpr) → type_in index m t ≡ Some type → Memᴰ u (type_types type) → u < t
   all_types_earlier m t u type e named =
       let (the_module, here, at, linked) = in_its_module m (λ r. type_expr_at r t) type e in type_lower the_module linked t u type at named
 
   -- a test at a module that is there
-  at_present : (m : ℕ) (the_module : Module) (test : Module → Bool) → module_at index m ≡ some the_module → let_some (module_at index m) true test ≡ true
+  at_present : (m : ℕ) (the_module : Module) (test : Module → Bool) → module_at index m ≡ Some the_module → let_some (module_at index m) true test ≡ true
       → test the_module ≡ true
   at_present m the_module test here e = sym (ap (λ o. let_some o true test) here) ∙ e
 
   question_links : (question : Question) → question_linked index question ≡ true → QuestionLinks index question
   unfolding question_linked
-  question_links (Question.expr m e none) h = tt
-  question_links (Question.expr m e (some t)) h =
+  question_links (Question.expr m e None) h = tt
+  question_links (Question.expr m e (Some t)) h =
       λ present.
       let (the_module, here, at) = some_of (module_at index m) (λ r. expression_at r e) present.0 present.1 in
       let there : ltb e (length the_module.expressions) ≡ true = lt-ltb e (length the_module.expressions) (getElem_below the_module.expressions e at) in
-      let test = at_present m the_module (λ r. not (ltb e (length r.expressions)) || all_below (length r.types) (link (some t))) here h in
+      let test = at_present m the_module (λ r. not (ltb e (length r.expressions)) || all_below (length r.types) (link (Some t))) here h in
       present_in here (λ r. r.types) t
-      (below_of (length the_module.types) t (link (some t))
-      (under (ltb e (length the_module.expressions)) (all_below (length the_module.types) (link (some t))) test there)
+      (below_of (length the_module.types) t (link (Some t))
+      (under (ltb e (length the_module.expressions)) (all_below (length the_module.types) (link (Some t))) test there)
       (Memᴰ.head refl))
   question_links (Question.def m d) h = tt
   question_links (Question.at m position) h = tt
@@ -303,7 +304,7 @@ module _ (index : Index) (no_fault : link_fault index ≡ none) where
         present_in here (λ r. r.scopes) s (ltb_lt s (length the_module.scopes) (and_right (ltb t (length the_module.types)) _ test)),
       )
 
-  pub all_question_links : (n : ℕ) (question : Question) → get_elem? index.questions n ≡ some question → QuestionLinks index question
+  pub all_question_links : (n : ℕ) (question : Question) → slice_get index.questions n ≡ Some question → QuestionLinks index question
   unfolding linked_lines
   all_question_links n question e =
       question_links question

@@ -2,7 +2,7 @@
 use Prim.Native.Nat.{ℕ, zero, suc}
 use mathlib.Core.Path.{◌≡◌, refl, sym, ap, subst}
 use mathlib.Core.Bool.{Bool, true, false}
-use mathlib.Core.Option.{Option, none, some}
+use Rattle.std.specs.Prelude.{Option, None, Some}
 use lib.Dec.{ltb}
 use lib.ListN.{length, take, drop}
 use Rattle.std.specs.Prelude.{if◌then◌else◌}
@@ -79,7 +79,7 @@ index_of (refused k line) other = other
 -- what the lines of an accepted file gave
 record Lines (version : ℕ) (index : Index) : Type 0 where
   growing : Growing version index
-  no_fault : link_fault index ≡ none
+  no_fault : link_fault index ≡ None
 
 lines_accepted : (version : ℕ) (t : Text) (index : Index) → load_lines version t ≡ accepted index → Lines version index
 unfolding load_lines
@@ -87,20 +87,20 @@ lines_accepted version t index e = by_pass (first_pass version t) refl e
   where
     by_fault : (found : Index) (o : Option ℕ) → link_fault found ≡ o → let_some o (accepted found) (λ line. refused 5 line) ≡ accepted index → Growing version found
         → Lines version index
-    by_fault found none no_fault h g =
+    by_fault found None no_fault h g =
         let same : found ≡ index = ap (λ x. index_of x found) h in subst (Lines version) same (record { growing = g; no_fault = no_fault })
-    by_fault found (some line) fault h g = absurd (refused≢accepted h)
+    by_fault found (Some line) fault h g = absurd (refused≢accepted h)
 
     by_pass : (pass : First) → first_pass version t ≡ pass → after_first pass ≡ accepted index → Lines version index
     by_pass (wrong k line) is_pass h = absurd (refused≢accepted h)
     by_pass (read found) is_pass h = by_fault found (link_fault found) refl h (pass_grown version t found is_pass)
 
 -- the one first line that there is
-version_one : (file : Text) (version : ℕ) → version_of file ≡ some version → version ≡ 1
+version_one : (file : Text) (version : ℕ) → version_of file ≡ Some version → version ≡ 1
 unfolding version_of place_in first word_at
 version_one file version e = by_test (is_keyword (take first_line_length file) (keyword "index\t1\n" 1)) e
   where
-    by_test : (b : Bool) → let_some (if b then some 0 else none) none (λ n. some (word_at first_lines 0 n)) ≡ some version → version ≡ 1
+    by_test : (b : Bool) → let_some (if b then Some 0 else None) None (λ n. Some (word_at first_lines 0 n)) ≡ Some version → version ≡ 1
     by_test true h = sym (some-injective h)
     by_test false h = absurd (none≢some h)
 
@@ -108,15 +108,15 @@ file_lines : (file : Text) (index : Index) → load file ≡ accepted index → 
 unfolding load
 file_lines file index e = by_size (ltb max_bytes (length file)) e
   where
-    by_version : (o : Option ℕ) → version_of file ≡ o → elim o [ none ↦ refused 2 1 | some version ↦ load_lines version (drop first_line_length file) ] ≡ accepted index
+    by_version : (o : Option ℕ) → version_of file ≡ o → elim o [ None ↦ refused 2 1 | Some version ↦ load_lines version (drop first_line_length file) ] ≡ accepted index
         → Lines 1 index
-    by_version none is_version h = absurd (refused≢accepted h)
-    by_version (some version) is_version h =
+    by_version None is_version h = absurd (refused≢accepted h)
+    by_version (Some version) is_version h =
         subst (λ v. Lines v index) (version_one file version is_version) (lines_accepted version (drop first_line_length file) index h)
 
     by_size : (b : Bool) → elim b [
       | true ↦ refused 3 0
-      | false ↦ elim (version_of file) [ none ↦ refused 2 1 | some version ↦ load_lines version (drop first_line_length file) ]
+      | false ↦ elim (version_of file) [ None ↦ refused 2 1 | Some version ↦ load_lines version (drop first_line_length file) ]
     ] ≡ accepted index → Lines 1 index
     by_size true h = absurd (refused≢accepted h)
     by_size false h = by_version (version_of file) refl h
@@ -140,7 +140,7 @@ loaded_well_formed file index e =
       limits = g.limits;
     }
   where
-    root_kind : All (λ m. All RootKind m.scopes) index.modules → (m s : ℕ) (scope : Scope) → scope_in index m s ≡ some scope → RootKind scope
+    root_kind : All (λ m. All RootKind m.scopes) index.modules → (m s : ℕ) (scope : Scope) → scope_in index m s ≡ Some scope → RootKind scope
     root_kind roots m s scope h =
         let (the_module, here, at) = some_of (module_at index m) (λ r. scope_at r s) scope h in
         all_at RootKind the_module.scopes s scope (all_at (λ r. All RootKind r.scopes) index.modules m the_module roots here) at

@@ -3,7 +3,7 @@ use Prim.Native.Nat.{ℕ, ◌+◌, ◌≤◌}
 use mathlib.Core.Path.{◌≡◌, refl, sym, ap, subst}
 use mathlib.Core.Bool.{Bool, true, false, not, ◌&&◌}
 use mathlib.Core.List.{[], ◌∷◌}
-use mathlib.Core.Option.{Option, none, some}
+use Rattle.std.specs.Prelude.{Option, None, Some}
 use lib.Dec.{eqb, ltb}
 use Rattle.std.specs.Prelude.{if◌then◌else◌}
 use Rattle.model.specs.Common.{Text}
@@ -20,7 +20,7 @@ use Rattle.format.proofs.Reading.{every_some, EntryOf, every_line}
 -- a line of kind w was read at t, and its record added to the index; an LF and `rest` are left
 pub record Added (w : LineWord) (index : Index) (t : Text) (after : Index) (rest : Text) : Type 0 where
   pub line : Line
-  pub read : line_from w t ≡ some line
+  pub read : line_from w t ≡ Some line
   pub entry_of : EntryOf w line.entry
   pub room : has_line_room w index ≡ true
   pub items : item_count index + entry_items line.entry ≤ max_items
@@ -67,8 +67,8 @@ judged_go : (w : LineWord) (s : Seen) (t : Text) (s₁ : Seen) (t₁ : Text) →
 judged_go w s t s₁ t₁ room e = at_line (line_from w t) refl e
   where
     at_line : (o : Option Line) → line_from w t ≡ o → judged w s o ≡ go s₁ t₁ → Added w s.index t s₁.index t₁
-    at_line none r h = absurd (refuse≢go h)
-    at_line (some l) r h =
+    at_line None r h = absurd (refuse≢go h)
+    at_line (Some l) r h =
         let (few, h₁) = not_refused (ltb max_items (item_count s.index + entry_items l.entry)) 3 _ s₁ t₁ h in
         let (right, h₂) = passed (in_place w s.stage && not (is_again l.entry s.index)) 4 _ s₁ t₁ h₁ in
         let (same, rest) = ended_go (record { stage = stage_of w; index = add l.entry s.index }) l.rest s₁ t₁ h₂ in

@@ -3,7 +3,7 @@ use Prim.Native.Nat.{ℕ, ◌≤◌}
 use native.Mathlib.Omega.{arith}
 use mathlib.Core.Path.{◌≡◌, refl, sym, subst}
 use mathlib.Core.Bool.{Bool, true, false}
-use mathlib.Core.Option.{Option, none, some}
+use Rattle.std.specs.Prelude.{Option, None, Some}
 use lib.Dec.{leb}
 use Rattle.model.specs.Common.{Text, let_some}
 use Rattle.model.specs.Records.{Name, ScopeKind, Scope, TypeExpr, Definition, ExpressionInfo, Question}
@@ -24,25 +24,25 @@ use Rattle.format.specs.Lines.{Entry, a_module, a_scope, a_type, a_definition, a
 -- ------------------------------------------------------------------ what is known of a result, if there is one
 
 pub data Every {A : Type 0} (P : A → Type 0) : Option A → Type 0 where
-  nothing : Every P none
-  this : (x : A) → P x → Every P (some x)
+  nothing : Every P None
+  this : (x : A) → P x → Every P (Some x)
 
-pub every_some : {A : Type 0} {P : A → Type 0} {o : Option A} {x : A} → Every P o → o ≡ some x → P x
+pub every_some : {A : Type 0} {P : A → Type 0} {o : Option A} {x : A} → Every P o → o ≡ Some x → P x
 every_some {P = P} {x = x} h e = of (subst (Every P) e h)
   where
-    of : Every P (some x) → P x
+    of : Every P (Some x) → P x
     of (this y p) = p
 
 -- one reading after the other
 pub every_then : {A B : Type 0} {P : A → Type 0} {Q : B → Type 0} {o : Option A} {k : A → Option B}
-    → Every P o → ((x : A) → P x → Every Q (k x)) → Every Q (let_some o none k)
+    → Every P o → ((x : A) → P x → Every Q (k x)) → Every Q (let_some o None k)
 every_then nothing f = nothing
 every_then (this x p) f = f x p
 
 -- after a reading of which nothing has to be known
-pub every_after : {A B : Type 0} {Q : B → Type 0} (o : Option A) {k : A → Option B} → ((x : A) → Every Q (k x)) → Every Q (let_some o none k)
-every_after none f = nothing
-every_after (some x) f = f x
+pub every_after : {A B : Type 0} {Q : B → Type 0} (o : Option A) {k : A → Option B} → ((x : A) → Every Q (k x)) → Every Q (let_some o None k)
+every_after None f = nothing
+every_after (Some x) f = f x
 
 -- ------------------------------------------------------------------ numbers up to a bound
 
@@ -57,9 +57,9 @@ number_small most u = of (plain_number u)
     bounded n true e = this (number n) (leb_le n most e)
     bounded n false e = nothing
 
-    of : (o : Option ℕ) → Every (Small most) (numbered (let_some o none λ n. only_if (leb n most) n))
-    of none = nothing
-    of (some n) = bounded n (leb n most) refl
+    of : (o : Option ℕ) → Every (Small most) (numbered (let_some o None λ n. only_if (leb n most) n))
+    of None = nothing
+    of (Some n) = bounded n (leb n most) refl
 
 abbrev SmallKind : ℕ → Kind → Type 0
 SmallKind most k = (u : Text) → Every (Small most) (value_of k u)
@@ -84,7 +84,7 @@ slot_small most k small t = of (is_nothing k)
     held u nothing = nothing
     held u (this v h) = this (record { value = v; rest = u }) h
 
-    of : (b : Bool) → Every (λ (r : Read). Small most r.value) (elim b [ true ↦ some (record { value = absent; rest = t }) | false ↦ slot_field k t ])
+    of : (b : Bool) → Every (λ (r : Read). Small most r.value) (elim b [ true ↦ Some (record { value = absent; rest = t }) | false ↦ slot_field k t ])
     of true = this (record { value = absent; rest = t }) (omega arith)
     of false = every_after (behind_tab t) λ u. held (behind u) (small (field_of u))
 
@@ -130,23 +130,23 @@ question_small QuestionWord.Other x small = nothing
 
 -- "`module` (with `-` and only then)"
 abbrev pub RootKind : Scope → Type 0
-RootKind scope = scope.parent ≡ none → scope.kind ≡ ScopeKind.ModuleScope
+RootKind scope = scope.parent ≡ None → scope.kind ≡ ScopeKind.ModuleScope
 
-some_parent : (p : ℕ) (kind : ScopeKind) → RootKind (record { parent = some p; kind = kind })
+some_parent : (p : ℕ) (kind : ScopeKind) → RootKind (record { parent = Some p; kind = kind })
 some_parent p kind e = absurd (none≢some (sym e))
 
 scope_kind : (parent : Option ℕ) (w : ScopeWord) → Every RootKind (scope_as parent w)
 unfolding scope_as
-scope_kind none ScopeWord.Module = this (record { parent = none; kind = ScopeKind.ModuleScope }) (λ e. refl)
-scope_kind none ScopeWord.Function = nothing
-scope_kind none ScopeWord.Block = nothing
-scope_kind none ScopeWord.Loop = nothing
-scope_kind none ScopeWord.Other = nothing
-scope_kind (some p) ScopeWord.Module = nothing
-scope_kind (some p) ScopeWord.Function = this (record { parent = some p; kind = ScopeKind.FunctionScope }) (some_parent p ScopeKind.FunctionScope)
-scope_kind (some p) ScopeWord.Block = this (record { parent = some p; kind = ScopeKind.BlockScope }) (some_parent p ScopeKind.BlockScope)
-scope_kind (some p) ScopeWord.Loop = this (record { parent = some p; kind = ScopeKind.LoopScope }) (some_parent p ScopeKind.LoopScope)
-scope_kind (some p) ScopeWord.Other = nothing
+scope_kind None ScopeWord.Module = this (record { parent = None; kind = ScopeKind.ModuleScope }) (λ e. refl)
+scope_kind None ScopeWord.Function = nothing
+scope_kind None ScopeWord.Block = nothing
+scope_kind None ScopeWord.Loop = nothing
+scope_kind None ScopeWord.Other = nothing
+scope_kind (Some p) ScopeWord.Module = nothing
+scope_kind (Some p) ScopeWord.Function = this (record { parent = Some p; kind = ScopeKind.FunctionScope }) (some_parent p ScopeKind.FunctionScope)
+scope_kind (Some p) ScopeWord.Block = this (record { parent = Some p; kind = ScopeKind.BlockScope }) (some_parent p ScopeKind.BlockScope)
+scope_kind (Some p) ScopeWord.Loop = this (record { parent = Some p; kind = ScopeKind.LoopScope }) (some_parent p ScopeKind.LoopScope)
+scope_kind (Some p) ScopeWord.Other = nothing
 
 -- ------------------------------------------------------------------ a line of a kind
 

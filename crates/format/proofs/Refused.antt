@@ -4,7 +4,7 @@ use native.Mathlib.Omega.{arith}
 use mathlib.Core.Path.{◌≡◌, subst}
 use mathlib.Core.Bool.{Bool, true, false, ◌&&◌, not}
 use mathlib.Core.List.{[], ◌∷◌}
-use mathlib.Core.Option.{Option, none, some}
+use Rattle.std.specs.Prelude.{Option, None, Some}
 use lib.Dec.{eqb, ltb}
 use lib.ListN.{length, drop}
 use Rattle.std.specs.Prelude.{if◌then◌else◌}
@@ -34,8 +34,8 @@ ended_few s [] = omega arith
 ended_few s (b ∷ t) = if_few (eqb b 10) (go s t) (refuse 4) tt (omega arith)
 
 judged_few : (w : LineWord) (s : Seen) (o : Option Line) → StepFew (judged w s o)
-judged_few w s none = omega arith
-judged_few w s (some l) =
+judged_few w s None = omega arith
+judged_few w s (Some l) =
     let on = ended_few (record { stage = stage_of w; index = add l.entry s.index }) l.rest in
     if_few (ltb max_items (item_count s.index + entry_items l.entry)) (refuse 3) _ (omega arith)
     (if_few (in_place w s.stage && not (is_again l.entry s.index)) _ (refuse 4) on (omega arith))
@@ -88,19 +88,19 @@ load_lines_few version t = by_pass (first_pass version t) (lines_few (suc (lengt
     by_pass (read index) h = by_fault (link_fault index)
       where
         by_fault : (o : Option ℕ) → LoadingFew (let_some o (accepted index) (λ line. refused refusal_link line))
-        by_fault none = tt
-        by_fault (some line) = omega arith
+        by_fault None = tt
+        by_fault (Some line) = omega arith
 
 load_few : (file : Text) → LoadingFew (load file)
 unfolding load
 load_few file = by_size (ltb max_bytes (length file))
   where
-    by_version : (o : Option ℕ) → LoadingFew (elim o [ none ↦ refused 2 1 | some version ↦ load_lines version (drop first_line_length file) ])
-    by_version none = omega arith
-    by_version (some version) = load_lines_few version (drop first_line_length file)
+    by_version : (o : Option ℕ) → LoadingFew (elim o [ None ↦ refused 2 1 | Some version ↦ load_lines version (drop first_line_length file) ])
+    by_version None = omega arith
+    by_version (Some version) = load_lines_few version (drop first_line_length file)
 
     by_size : (b : Bool)
-        → LoadingFew (elim b [ true ↦ refused 3 0 | false ↦ elim (version_of file) [ none ↦ refused 2 1 | some version ↦ load_lines version (drop first_line_length file) ] ])
+        → LoadingFew (elim b [ true ↦ refused 3 0 | false ↦ elim (version_of file) [ None ↦ refused 2 1 | Some version ↦ load_lines version (drop first_line_length file) ] ])
     by_size true = omega arith
     by_size false = by_version (version_of file)
 

@@ -2,7 +2,7 @@
 -- files. Tables under one theorem each. Assumes nothing.
 use Rattle.std.specs.Prelude.{ℕ, ◌≡◌, refl, List, [], ◌∷◌, ◌++◌, map, length}
 use Prim.Native.String.{String}
-use Rattle.std.proofs.Math.Option.{none, some}
+use Rattle.std.specs.Prelude.{None, Some}
 use Rattle.model.specs.Common.{Text, bytes, tabs}
 use Rattle.model.specs.Limits.{item_count}
 use Rattle.model.specs.Records.{ScopeKind, TypeExpr, DefinitionKind, Origin, BinaryOp, Expression, Module, Question}
@@ -19,20 +19,20 @@ abbrev main : Module
 main =
     record {
       name = bytes "main";
-      scopes = record { parent = none; kind = ScopeKind.ModuleScope } ∷ record { parent = some 0; kind = ScopeKind.FunctionScope } ∷ [];
+      scopes = record { parent = None; kind = ScopeKind.ModuleScope } ∷ record { parent = Some 0; kind = ScopeKind.FunctionScope } ∷ [];
       types = TypeExpr.U32 ∷ [];
       definitions =
           record { scope = 0; name = bytes "f"; name_start = 3; name_end = 4; full_start = 0; full_end = 30; kind = DefinitionKind.Function 0 (record { name = bytes "x"; type = 0 } ∷ []) }
           ∷ record { scope = 1; name = bytes "x"; name_start = 5; name_end = 6; full_start = 5; full_end = 11; kind = DefinitionKind.Parameter 0 }
           ∷ [];
       expressions =
-          record { scope = 1; start = 24; end = 25; expected = none; definition = some 1; origin = Origin.Plain; node = Expression.Identifier (bytes "x") }
-          ∷ record { scope = 1; start = 20; end = 21; expected = none; definition = none; origin = Origin.Plain; node = Expression.Literal none }
-          ∷ record { scope = 1; start = 20; end = 25; expected = none; definition = none; origin = Origin.Plain; node = Expression.Binary BinaryOp.Add (some 1) (some 0) }
+          record { scope = 1; start = 24; end = 25; expected = None; definition = Some 1; origin = Origin.Plain; node = Expression.Identifier (bytes "x") }
+          ∷ record { scope = 1; start = 20; end = 21; expected = None; definition = None; origin = Origin.Plain; node = Expression.Literal None }
+          ∷ record { scope = 1; start = 20; end = 25; expected = None; definition = None; origin = Origin.Plain; node = Expression.Binary BinaryOp.Add (Some 1) (Some 0) }
           ∷ [];
     }
 
-pub whole_loads : load (tabs whole) ≡ accepted (record { version = 1; modules = main ∷ []; questions = Question.expr 0 2 none ∷ Question.expr 0 1 none ∷ [] })
+pub whole_loads : load (tabs whole) ≡ accepted (record { version = 1; modules = main ∷ []; questions = Question.expr 0 2 None ∷ Question.expr 0 1 None ∷ [] })
 unfolding loads whole
 whole_loads = refl
 

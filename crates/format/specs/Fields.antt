@@ -1,7 +1,7 @@
 -- From bytes to fields, and what each kind of field may hold. A line is read from left to right: what is left of it are the bytes from the
 -- end of the last field on, so a next field stands there only if the first of them is a tab. Assumes nothing.
 use Rattle.std.specs.Prelude.{ℕ, ◌+◌, ◌-◌, ◌*◌, [], ◌∷◌, Bool, true, false, ◌&&◌, ◌||◌, not, length, drop, eqb, leb}
-use Rattle.std.proofs.Math.Option.{Option, none, some}
+use Rattle.std.specs.Prelude.{Option, None, Some}
 use Rattle.model.specs.Common.{Text, bytes, let_some, eq_numbers}
 use Rattle.model.specs.Limits.{max_number, max_position, max_size}
 use Rattle.format.specs.declared.Kind.{Kind}
@@ -29,25 +29,25 @@ is_digit b = leb 48 b && leb b 57
 
 -- the number whose digits are those of n and then the text's
 unfoldable pub digits : ℕ → Text → Option ℕ
-digits n [] = some n
-digits n (b ∷ t) = elim (is_digit b) [ true ↦ digits (n * 10 + (b - 48)) t | false ↦ none ]
+digits n [] = Some n
+digits n (b ∷ t) = elim (is_digit b) [ true ↦ digits (n * 10 + (b - 48)) t | false ↦ None ]
 
 abbrev pub only_if : {A : Type 0} → Bool → A → Option A
-only_if true a = some a
-only_if false a = none
+only_if true a = Some a
+only_if false a = None
 
 -- a zero stands alone
 unfoldable pub alone : Text → Option ℕ
-alone [] = some 0
-alone (b ∷ t) = none
+alone [] = Some 0
+alone (b ∷ t) = None
 
 unfoldable pub plain_number : Text → Option ℕ
-plain_number [] = none
+plain_number [] = None
 plain_number (b ∷ t) = elim (eqb b 48) [ true ↦ alone t | false ↦ digits 0 (b ∷ t) ]
 
 -- a number that is at most `most`
 unfoldable pub number_of : ℕ → Text → Option ℕ
-number_of most t = let_some (plain_number t) none λ n. only_if (leb n most) n
+number_of most t = let_some (plain_number t) None λ n. only_if (leb n most) n
 
 -- ------------------------------------------------------------------ names: "1 to 64 bytes from 21 to 7E hexadecimal, and not `-`"
 
@@ -69,8 +69,8 @@ pub data Value : Type 0 where
   text : Text → Value
 
 abbrev pub numbered : Option ℕ → Option Value
-numbered none = none
-numbered (some n) = some (number n)
+numbered None = None
+numbered (Some n) = Some (number n)
 
 -- a name as it stands, or nothing
 unfoldable pub name_value : Text → Option Value
@@ -78,11 +78,11 @@ name_value t = only_if (is_name t) (text t)
 
 -- "`-`, which means absent", or what is read otherwise
 unfoldable pub or_dash : Text → Option Value → Option Value
-or_dash t v = elim (is_dash t) [ true ↦ some absent | false ↦ v ]
+or_dash t v = elim (is_dash t) [ true ↦ Some absent | false ↦ v ]
 
 -- the value of a field of a kind, or none where its form is wrong
 unfoldable pub value_of : Kind → Text → Option Value
-value_of Kind.Nothing t = none
+value_of Kind.Nothing t = None
 value_of Kind.Number t = numbered (number_of max_number t)
 value_of Kind.MaybeNumber t = or_dash t (numbered (number_of max_number t))
 value_of Kind.Position t = numbered (number_of max_position t)
@@ -101,17 +101,17 @@ pub record Read : Type 0 where
   pub rest : Text
 
 abbrev pub reading : Text → Option Value → Option Read
-reading t none = none
-reading t (some v) = some (record { value = v; rest = t })
+reading t None = None
+reading t (Some v) = Some (record { value = v; rest = t })
 
 -- what stands behind the tab that must stand here
 unfoldable pub behind_tab : Text → Option Text
-behind_tab [] = none
-behind_tab (b ∷ t) = elim (eqb b 9) [ true ↦ some t | false ↦ none ]
+behind_tab [] = None
+behind_tab (b ∷ t) = elim (eqb b 9) [ true ↦ Some t | false ↦ None ]
 
 -- the field behind the tab that stands here
 unfoldable pub slot_field : Kind → Text → Option Read
-slot_field k t = let_some (behind_tab t) none λ u. reading (behind u) (value_of k (field_of u))
+slot_field k t = let_some (behind_tab t) None λ u. reading (behind u) (value_of k (field_of u))
 
 -- `Nothing` reads no field
 abbrev pub is_nothing : Kind → Bool
@@ -127,4 +127,4 @@ is_nothing Kind.BinaryOp = false
 is_nothing Kind.Unused = false
 
 unfoldable pub slot : Kind → Text → Option Read
-slot k t = elim (is_nothing k) [ true ↦ some (record { value = absent; rest = t }) | false ↦ slot_field k t ]
+slot k t = elim (is_nothing k) [ true ↦ Some (record { value = absent; rest = t }) | false ↦ slot_field k t ]

@@ -1,7 +1,7 @@
 -- The first pass over the lines: form, place, last byte, module names and the limits. It ends at the first line with refusal 3 or 4.
 -- Assumes nothing.
 use Rattle.std.specs.Prelude.{ℕ, zero, suc, ◌+◌, List, [], ◌∷◌, ◌++◌, Bool, true, false, ◌&&◌, not, length, eqb, leb, ltb}
-use Rattle.std.proofs.Math.Option.{Option, none, some}
+use Rattle.std.specs.Prelude.{Option, None, Some}
 use Rattle.std.specs.Prelude.{if◌then◌else◌}
 use Rattle.model.specs.Common.{Text, is_empty, is_none}
 use Rattle.model.specs.Records.{Name, Scope, TypeExpr, Definition, ExpressionInfo, Module, Index}
@@ -128,8 +128,8 @@ ended s (b ∷ t) = if eqb b 10 then go s t else refuse refusal_form
 -- wrong form 4; too many items 3; wrong place or a module name again 4; no LF 4, in this order:
 -- "3 first; .. items only in lines of right form"
 abbrev pub judged : LineWord → Seen → Option Line → Step
-judged w s none = refuse refusal_form
-judged w s (some l) =
+judged w s None = refuse refusal_form
+judged w s (Some l) =
     if ltb max_items (item_count s.index + entry_items l.entry)
     then refuse refusal_limit
     else if in_place w s.stage && not (is_again l.entry s.index)

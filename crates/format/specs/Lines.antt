@@ -1,6 +1,6 @@
 -- The lines of an index file, each kind by itself: the record that a line stands for. Assumes nothing.
 use Rattle.std.specs.Prelude.{ℕ}
-use Rattle.std.proofs.Math.Option.{Option, none, some}
+use Rattle.std.specs.Prelude.{Option, None, Some}
 use Rattle.model.specs.Common.{Text, let_some}
 use Rattle.model.specs.Records.{Name, Scope, TypeExpr, DefinitionKind, Definition, Origin, Expression, ExpressionInfo, Question}
 use Rattle.model.specs.Limits.{type_expr_items, definition_items, expression_items}
@@ -45,25 +45,25 @@ pub record WordRead : Type 0 where
   pub rest : Text
 
 unfoldable pub word_here : Text → Option WordRead
-word_here t = let_some (behind_tab t) none λ u. some (record { word = field_of u; rest = behind u })
+word_here t = let_some (behind_tab t) None λ u. Some (record { word = field_of u; rest = behind u })
 
 -- ------------------------------------------------------------------ the six kinds, behind the first field
 
 unfoldable pub module_line : Text → Option Line
-module_line t = let_some (tail module_shape t) none λ x. some (line (a_module (txt x.a)) x.rest)
+module_line t = let_some (tail module_shape t) None λ x. Some (line (a_module (txt x.a)) x.rest)
 
 unfoldable pub scope_line : Text → Option Line
 scope_line t =
-    let_some (slot Kind.MaybeNumber t) none λ p.
-    let_some (word_here p.rest) none λ w.
-    let_some (tail bare w.rest) none λ x.
-    let_some (scope_as (maybe_num p.value) (scope_word_of w.word)) none λ scope. some (line (a_scope scope) x.rest)
+    let_some (slot Kind.MaybeNumber t) None λ p.
+    let_some (word_here p.rest) None λ w.
+    let_some (tail bare w.rest) None λ x.
+    let_some (scope_as (maybe_num p.value) (scope_word_of w.word)) None λ scope. Some (line (a_scope scope) x.rest)
 
 unfoldable pub type_line : Text → Option Line
 type_line t =
-    let_some (word_here t) none λ w.
-    let_some (tail (type_shape (type_word_of w.word)) w.rest) none λ x.
-    let_some (type_as (type_word_of w.word) x) none λ type. some (line (a_type type) x.rest)
+    let_some (word_here t) None λ w.
+    let_some (tail (type_shape (type_word_of w.word)) w.rest) None λ x.
+    let_some (type_as (type_word_of w.word) x) None λ type. Some (line (a_type type) x.rest)
 
 -- h: scope, name and start of name_span; k: end of name_span, start and end of full_span
 abbrev pub definition_from : Three → Three → DefinitionKind → Definition
@@ -80,12 +80,12 @@ definition_from h k kind =
 
 unfoldable pub definition_line : Text → Option Line
 definition_line t =
-    let_some (three Kind.Number Kind.Name Kind.Position t) none λ h.
-    let_some (three Kind.Position Kind.Position Kind.Position h.rest) none λ k.
-    let_some (word_here k.rest) none λ w.
-    let_some (tail (definition_shape (definition_word_of w.word)) w.rest) none λ x.
-    let_some (definition_as (definition_word_of w.word) x) none λ kind.
-    some (line (a_definition (definition_from h k kind)) x.rest)
+    let_some (three Kind.Number Kind.Name Kind.Position t) None λ h.
+    let_some (three Kind.Position Kind.Position Kind.Position h.rest) None λ k.
+    let_some (word_here k.rest) None λ w.
+    let_some (tail (definition_shape (definition_word_of w.word)) w.rest) None λ x.
+    let_some (definition_as (definition_word_of w.word) x) None λ kind.
+    Some (line (a_definition (definition_from h k kind)) x.rest)
 
 -- h: scope, start, end; k: expected t and recorded definition
 abbrev pub expression_from : Three → Three → Origin → Expression → ExpressionInfo
@@ -102,21 +102,21 @@ expression_from h k origin node =
 
 unfoldable pub expression_line : Text → Option Line
 expression_line t =
-    let_some (three Kind.Number Kind.Position Kind.Position t) none λ h.
-    let_some (three Kind.MaybeNumber Kind.MaybeNumber Kind.Nothing h.rest) none λ k.
-    let_some (word_here k.rest) none λ v.
-    let_some (three (origin_shape (origin_word_of v.word)).a (origin_shape (origin_word_of v.word)).b Kind.Nothing v.rest) none λ o.
-    let_some (word_here o.rest) none λ w.
-    let_some (tail (node_shape (node_word_of w.word)) w.rest) none λ x.
-    let_some (origin_as (origin_word_of v.word) o) none λ origin.
-    let_some (node_as (node_word_of w.word) x) none λ node.
-    some (line (an_expression (expression_from h k origin node)) x.rest)
+    let_some (three Kind.Number Kind.Position Kind.Position t) None λ h.
+    let_some (three Kind.MaybeNumber Kind.MaybeNumber Kind.Nothing h.rest) None λ k.
+    let_some (word_here k.rest) None λ v.
+    let_some (three (origin_shape (origin_word_of v.word)).a (origin_shape (origin_word_of v.word)).b Kind.Nothing v.rest) None λ o.
+    let_some (word_here o.rest) None λ w.
+    let_some (tail (node_shape (node_word_of w.word)) w.rest) None λ x.
+    let_some (origin_as (origin_word_of v.word) o) None λ origin.
+    let_some (node_as (node_word_of w.word) x) None λ node.
+    Some (line (an_expression (expression_from h k origin node)) x.rest)
 
 unfoldable pub question_line : Text → Option Line
 question_line t =
-    let_some (word_here t) none λ w.
-    let_some (tail (question_shape (question_word_of w.word)) w.rest) none λ x.
-    let_some (question_as (question_word_of w.word) x) none λ question. some (line (a_question question) x.rest)
+    let_some (word_here t) None λ w.
+    let_some (tail (question_shape (question_word_of w.word)) w.rest) None λ x.
+    let_some (question_as (question_word_of w.word) x) None λ question. Some (line (a_question question) x.rest)
 
 -- the line of a kind, behind its first field; none where its form is wrong
 unfoldable pub line_from : LineWord → Text → Option Line
@@ -126,4 +126,4 @@ line_from LineWord.T t = type_line t
 line_from LineWord.D t = definition_line t
 line_from LineWord.E t = expression_line t
 line_from LineWord.Q t = question_line t
-line_from LineWord.Other t = none
+line_from LineWord.Other t = None

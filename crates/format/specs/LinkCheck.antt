@@ -1,6 +1,6 @@
 -- Links: of the lines of an index that the first pass read, the first with refusal 5. Assumes nothing.
 use Rattle.std.specs.Prelude.{ℕ, suc, ◌+◌, List, [], ◌∷◌, ◌++◌, map, Bool, true, false, ◌&&◌, ◌||◌, not, length, eqb, ltb}
-use Rattle.std.proofs.Math.Option.{Option, none, some}
+use Rattle.std.specs.Prelude.{Option, None, Some}
 use Rattle.model.specs.Common.{let_some, is_empty, first}
 use Rattle.model.specs.Records.{Scope, TypeExpr, Definition, ExpressionInfo, Module, Question, Index}
 use Rattle.model.specs.Lookups.{module_at}
@@ -15,8 +15,8 @@ all_below n (k ∷ ks) = elim (ltb k n) [ true ↦ all_below n ks | false ↦ fa
 
 -- "Scope 0 has no parent; others have a lower-numbered one": the scope's own number, its parent
 abbrev pub parent_ok : ℕ → Option ℕ → Bool
-parent_ok s none = eqb s 0
-parent_ok s (some p) = ltb p s
+parent_ok s None = eqb s 0
+parent_ok s (Some p) = ltb p s
 
 unfoldable pub scope_linked : ℕ → Scope → Bool
 scope_linked s scope = parent_ok s scope.parent
@@ -73,4 +73,4 @@ linked_lines index = modules_lines index.modules ++ map (question_linked index) 
 
 -- the first line with 5: a link to no record, a T that isn't earlier, a wrong parent, a module without scope
 unfoldable pub link_fault : Index → Option ℕ
-link_fault index = let_some (first not (linked_lines index)) none λ n. some (2 + n)
+link_fault index = let_some (first not (linked_lines index)) None λ n. Some (2 + n)

@@ -1,6 +1,6 @@
 -- Loading an index file: its bytes, its first line, the lines behind it, and their links. Assumes nothing.
 use Rattle.std.specs.Prelude.{ℕ, List, [], ◌∷◌, true, false, length, take, drop, ltb}
-use Rattle.std.proofs.Math.Option.{Option, none, some}
+use Rattle.std.specs.Prelude.{Option, None, Some}
 use Rattle.model.specs.Common.{Text, let_some}
 use Rattle.model.specs.Records.{Index}
 use Rattle.model.specs.Limits.{max_bytes}
@@ -24,7 +24,7 @@ first_line_length = 8
 
 unfoldable pub version_of : Text → Option ℕ
 version_of file =
-    let_some (place_in first_lines (take first_line_length file)) none λ n. some (word_at first_lines 0 n)
+    let_some (place_in first_lines (take first_line_length file)) None λ n. Some (word_at first_lines 0 n)
 
 -- 3 or 4 at the first line that has one, then 5 at the first line that has it
 abbrev pub after_first : First → Loading
@@ -40,5 +40,5 @@ unfoldable pub load : Text → Loading
 load file =
     elim (ltb max_bytes (length file)) [
       | true ↦ refused refusal_limit 0
-      | false ↦ elim (version_of file) [ none ↦ refused refusal_first_line 1 | some version ↦ load_lines version (drop first_line_length file) ]
+      | false ↦ elim (version_of file) [ None ↦ refused refusal_first_line 1 | Some version ↦ load_lines version (drop first_line_length file) ]
     ]

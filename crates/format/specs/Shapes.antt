@@ -1,7 +1,7 @@
 -- The lines' words: which fields stand behind each (document 01's list of M, S, T, D, E, Q), and the record that they make; none where the
 -- word is no word of its place. Assumes nothing.
 use Rattle.std.specs.Prelude.{ℕ, List, [], ◌∷◌, map, Bool, true, false}
-use Rattle.std.proofs.Math.Option.{Option, none, some}
+use Rattle.std.specs.Prelude.{Option, None, Some}
 use Rattle.model.specs.Common.{Text}
 use Rattle.model.specs.Records.{ScopeKind, Scope, TypeExpr, NameWithType, DefinitionKind, Origin, Expression, Question}
 use Rattle.format.specs.declared.Kind.{Kind}
@@ -25,9 +25,9 @@ num (number n) = n
 num (text t) = 0
 
 abbrev pub maybe_num : Value → Option ℕ
-maybe_num absent = none
-maybe_num (number n) = some n
-maybe_num (text t) = none
+maybe_num absent = None
+maybe_num (number n) = Some n
+maybe_num (text t) = None
 
 abbrev pub txt : Value → Text
 txt absent = []
@@ -35,9 +35,9 @@ txt (number n) = []
 txt (text t) = t
 
 abbrev pub maybe_txt : Value → Option Text
-maybe_txt absent = none
-maybe_txt (number n) = none
-maybe_txt (text t) = some t
+maybe_txt absent = None
+maybe_txt (number n) = None
+maybe_txt (text t) = Some t
 
 abbrev pub nums : List Item → List ℕ
 nums is = map (λ (i : Item). num i.first) is
@@ -62,19 +62,19 @@ module_shape = shape Kind.Name Kind.Nothing Kind.Nothing Listed.Empty
 
 -- S: "parent or `-`, then `module` (with `-` and only then, else 4), `function`, `block` or `loop`"
 abbrev a_scope_of : Option ℕ → ScopeKind → Option Scope
-a_scope_of parent kind = some (record { parent = parent; kind = kind })
+a_scope_of parent kind = Some (record { parent = parent; kind = kind })
 
 unfoldable pub scope_as : Option ℕ → ScopeWord → Option Scope
-scope_as none ScopeWord.Module = a_scope_of none ScopeKind.ModuleScope
-scope_as none ScopeWord.Function = none
-scope_as none ScopeWord.Block = none
-scope_as none ScopeWord.Loop = none
-scope_as none ScopeWord.Other = none
-scope_as (some p) ScopeWord.Module = none
-scope_as (some p) ScopeWord.Function = a_scope_of (some p) ScopeKind.FunctionScope
-scope_as (some p) ScopeWord.Block = a_scope_of (some p) ScopeKind.BlockScope
-scope_as (some p) ScopeWord.Loop = a_scope_of (some p) ScopeKind.LoopScope
-scope_as (some p) ScopeWord.Other = none
+scope_as None ScopeWord.Module = a_scope_of None ScopeKind.ModuleScope
+scope_as None ScopeWord.Function = None
+scope_as None ScopeWord.Block = None
+scope_as None ScopeWord.Loop = None
+scope_as None ScopeWord.Other = None
+scope_as (Some p) ScopeWord.Module = None
+scope_as (Some p) ScopeWord.Function = a_scope_of (Some p) ScopeKind.FunctionScope
+scope_as (Some p) ScopeWord.Block = a_scope_of (Some p) ScopeKind.BlockScope
+scope_as (Some p) ScopeWord.Loop = a_scope_of (Some p) ScopeKind.LoopScope
+scope_as (Some p) ScopeWord.Other = None
 
 -- T
 abbrev pub type_shape : TypeWord → Shape
@@ -88,20 +88,20 @@ type_shape TypeWord.Array = shape Kind.Number Kind.Size Kind.Nothing Listed.Empt
 type_shape TypeWord.Other = bare
 
 unfoldable pub type_as : TypeWord → Tail → Option TypeExpr
-type_as TypeWord.Felt x = some TypeExpr.Felt
-type_as TypeWord.Bool x = some TypeExpr.Bool
-type_as TypeWord.U32 x = some TypeExpr.U32
-type_as TypeWord.Custom x = some (TypeExpr.Custom (txt x.a))
-type_as TypeWord.Ptr x = some (TypeExpr.Pointer (num x.a))
-type_as TypeWord.Tuple x = some (TypeExpr.Tuple (nums x.list))
-type_as TypeWord.Array x = some (TypeExpr.FixedArray (num x.a) (num x.b))
-type_as TypeWord.Other x = none
+type_as TypeWord.Felt x = Some TypeExpr.Felt
+type_as TypeWord.Bool x = Some TypeExpr.Bool
+type_as TypeWord.U32 x = Some TypeExpr.U32
+type_as TypeWord.Custom x = Some (TypeExpr.Custom (txt x.a))
+type_as TypeWord.Ptr x = Some (TypeExpr.Pointer (num x.a))
+type_as TypeWord.Tuple x = Some (TypeExpr.Tuple (nums x.list))
+type_as TypeWord.Array x = Some (TypeExpr.FixedArray (num x.a) (num x.b))
+type_as TypeWord.Other x = None
 
 -- D, behind the spans. A let: "v is the destructured value; with `-` there is no path"
 abbrev pub path_ok : Option ℕ → List ℕ → Bool
-path_ok none [] = true
-path_ok none (n ∷ ns) = false
-path_ok (some v) ns = true
+path_ok None [] = true
+path_ok None (n ∷ ns) = false
+path_ok (Some v) ns = true
 
 abbrev pub definition_shape : DefinitionWord → Shape
 definition_shape DefinitionWord.Fn = shape Kind.Number Kind.Nothing Kind.Nothing Listed.Fields
@@ -114,16 +114,16 @@ definition_shape DefinitionWord.Loop = bare
 definition_shape DefinitionWord.Other = bare
 
 unfoldable pub definition_as : DefinitionWord → Tail → Option DefinitionKind
-definition_as DefinitionWord.Fn x = some (DefinitionKind.Function (num x.a) (fields x.list))
-definition_as DefinitionWord.Struct x = some (DefinitionKind.Struct (fields x.list))
-definition_as DefinitionWord.Const x = some (DefinitionKind.Const (maybe_num x.a) (maybe_num x.b))
+definition_as DefinitionWord.Fn x = Some (DefinitionKind.Function (num x.a) (fields x.list))
+definition_as DefinitionWord.Struct x = Some (DefinitionKind.Struct (fields x.list))
+definition_as DefinitionWord.Const x = Some (DefinitionKind.Const (maybe_num x.a) (maybe_num x.b))
 definition_as DefinitionWord.Let x =
     only_if (path_ok (maybe_num x.c) (nums x.list))
     (DefinitionKind.Let (maybe_num x.a) (maybe_num x.b) (maybe_num x.c) (nums x.list))
-definition_as DefinitionWord.Param x = some (DefinitionKind.Parameter (num x.a))
-definition_as DefinitionWord.Use x = some (DefinitionKind.Use (txt x.a) (txt x.b))
-definition_as DefinitionWord.Loop x = some DefinitionKind.LoopVariable
-definition_as DefinitionWord.Other x = none
+definition_as DefinitionWord.Param x = Some (DefinitionKind.Parameter (num x.a))
+definition_as DefinitionWord.Use x = Some (DefinitionKind.Use (txt x.a) (txt x.b))
+definition_as DefinitionWord.Loop x = Some DefinitionKind.LoopVariable
+definition_as DefinitionWord.Other x = None
 
 -- E: the origin with its link and value, and the node
 abbrev pub origin_shape : OriginWord → Shape
@@ -136,13 +136,13 @@ origin_shape OriginWord.Cond = shape Kind.Unused Kind.Unused Kind.Nothing Listed
 origin_shape OriginWord.Other = bare
 
 unfoldable pub origin_as : OriginWord → Three → Option Origin
-origin_as OriginWord.Plain x = some Origin.Plain
-origin_as OriginWord.Field x = some (Origin.StructField (num x.a) (txt x.b))
-origin_as OriginWord.Arg x = some (Origin.Arg (num x.a) (num x.b))
-origin_as OriginWord.Assign x = some (Origin.AssignmentRhs (num x.a))
-origin_as OriginWord.Return x = some Origin.ReturnExpr
-origin_as OriginWord.Cond x = some Origin.Condition
-origin_as OriginWord.Other x = none
+origin_as OriginWord.Plain x = Some Origin.Plain
+origin_as OriginWord.Field x = Some (Origin.StructField (num x.a) (txt x.b))
+origin_as OriginWord.Arg x = Some (Origin.Arg (num x.a) (num x.b))
+origin_as OriginWord.Assign x = Some (Origin.AssignmentRhs (num x.a))
+origin_as OriginWord.Return x = Some Origin.ReturnExpr
+origin_as OriginWord.Cond x = Some Origin.Condition
+origin_as OriginWord.Other x = None
 
 abbrev pub node_shape : NodeWord → Shape
 node_shape NodeWord.Lit = shape Kind.MaybeName Kind.Nothing Kind.Nothing Listed.Empty
@@ -164,23 +164,23 @@ node_shape NodeWord.Paren = shape Kind.MaybeNumber Kind.Nothing Kind.Nothing Lis
 node_shape NodeWord.Other = bare
 
 unfoldable pub node_as : NodeWord → Tail → Option Expression
-node_as NodeWord.Lit x = some (Expression.Literal (maybe_txt x.a))
-node_as NodeWord.Bool x = some Expression.BooleanLiteral
-node_as NodeWord.Ident x = some (Expression.Identifier (txt x.a))
-node_as NodeWord.Un x = some (Expression.Unary (unary_op_at (num x.a)) (maybe_num x.b))
-node_as NodeWord.Bin x = some (Expression.Binary (binary_op_at (num x.a)) (maybe_num x.b) (maybe_num x.c))
-node_as NodeWord.Call x = some (Expression.FunctionCall (maybe_num x.a) (maybe_nums x.list))
-node_as NodeWord.Member x = some (Expression.MemberAccess (maybe_num x.a) (txt x.b))
-node_as NodeWord.Index x = some (Expression.IndexAccess (maybe_num x.a) (maybe_num x.b))
-node_as NodeWord.Slit x = some (Expression.StructLiteral (txt x.a) (num x.b) (num x.c))
-node_as NodeWord.Tuple x = some (Expression.Tuple (maybe_nums x.list))
-node_as NodeWord.Tidx x = some (Expression.TupleIndex (maybe_num x.a) (num x.b))
-node_as NodeWord.Arr x = some (Expression.ArrayLiteral (maybe_nums x.list))
-node_as NodeWord.Rep x = some (Expression.ArrayRepeat (maybe_num x.a) (num x.b))
-node_as NodeWord.Cast x = some (Expression.Cast (num x.a))
-node_as NodeWord.New x = some (Expression.New (num x.a) (maybe_num x.b))
-node_as NodeWord.Paren x = some (Expression.Parenthesized (maybe_num x.a))
-node_as NodeWord.Other x = none
+node_as NodeWord.Lit x = Some (Expression.Literal (maybe_txt x.a))
+node_as NodeWord.Bool x = Some Expression.BooleanLiteral
+node_as NodeWord.Ident x = Some (Expression.Identifier (txt x.a))
+node_as NodeWord.Un x = Some (Expression.Unary (unary_op_at (num x.a)) (maybe_num x.b))
+node_as NodeWord.Bin x = Some (Expression.Binary (binary_op_at (num x.a)) (maybe_num x.b) (maybe_num x.c))
+node_as NodeWord.Call x = Some (Expression.FunctionCall (maybe_num x.a) (maybe_nums x.list))
+node_as NodeWord.Member x = Some (Expression.MemberAccess (maybe_num x.a) (txt x.b))
+node_as NodeWord.Index x = Some (Expression.IndexAccess (maybe_num x.a) (maybe_num x.b))
+node_as NodeWord.Slit x = Some (Expression.StructLiteral (txt x.a) (num x.b) (num x.c))
+node_as NodeWord.Tuple x = Some (Expression.Tuple (maybe_nums x.list))
+node_as NodeWord.Tidx x = Some (Expression.TupleIndex (maybe_num x.a) (num x.b))
+node_as NodeWord.Arr x = Some (Expression.ArrayLiteral (maybe_nums x.list))
+node_as NodeWord.Rep x = Some (Expression.ArrayRepeat (maybe_num x.a) (num x.b))
+node_as NodeWord.Cast x = Some (Expression.Cast (num x.a))
+node_as NodeWord.New x = Some (Expression.New (num x.a) (maybe_num x.b))
+node_as NodeWord.Paren x = Some (Expression.Parenthesized (maybe_num x.a))
+node_as NodeWord.Other x = None
 
 -- Q
 abbrev pub question_shape : QuestionWord → Shape
@@ -191,8 +191,8 @@ question_shape QuestionWord.At = shape Kind.Number Kind.Position Kind.Nothing Li
 question_shape QuestionWord.Other = bare
 
 unfoldable pub question_as : QuestionWord → Tail → Option Question
-question_as QuestionWord.Expr x = some (Question.expr (num x.a) (num x.b) (maybe_num x.c))
-question_as QuestionWord.Def x = some (Question.def (num x.a) (num x.b))
-question_as QuestionWord.OfType x = some (Question.type (num x.a) (num x.b) (num x.c))
-question_as QuestionWord.At x = some (Question.at (num x.a) (num x.b))
-question_as QuestionWord.Other x = none
+question_as QuestionWord.Expr x = Some (Question.expr (num x.a) (num x.b) (maybe_num x.c))
+question_as QuestionWord.Def x = Some (Question.def (num x.a) (num x.b))
+question_as QuestionWord.OfType x = Some (Question.type (num x.a) (num x.b) (num x.c))
+question_as QuestionWord.At x = Some (Question.at (num x.a) (num x.b))
+question_as QuestionWord.Other x = None

@@ -1,6 +1,6 @@
 -- The fields that stand one after the other in a line: up to three, then a list up to the line's end. Assumes nothing.
 use Rattle.std.specs.Prelude.{ℕ, zero, suc, List, [], ◌∷◌, Bool, true, false, not, length, eqb}
-use Rattle.std.proofs.Math.Option.{Option, none, some}
+use Rattle.std.specs.Prelude.{Option, None, Some}
 use Rattle.model.specs.Common.{Text, let_some}
 use Rattle.format.specs.declared.Kind.{Kind}
 use Rattle.format.specs.declared.Listed.{Listed}
@@ -17,10 +17,10 @@ pub record Three : Type 0 where
 
 unfoldable pub three : Kind → Kind → Kind → Text → Option Three
 three ka kb kc t =
-    let_some (slot ka t) none λ a.
-    let_some (slot kb a.rest) none λ b.
-    let_some (slot kc b.rest) none λ c.
-    some (record { a = a.value; b = b.value; c = c.value; rest = c.rest })
+    let_some (slot ka t) None λ a.
+    let_some (slot kb a.rest) None λ b.
+    let_some (slot kc b.rest) None λ c.
+    Some (record { a = a.value; b = b.value; c = c.value; rest = c.rest })
 
 -- ------------------------------------------------------------------ lists: an item has two parts at most
 
@@ -58,14 +58,14 @@ with_item x y r = record { list = record { first = x; second = y } ∷ r.list; r
 
 -- the items up to the line's end; n bounds how many there are
 unfoldable pub items_within : ℕ → Listed → Text → Option Items
-items_within zero l t = none
+items_within zero l t = None
 items_within (suc n) l t =
     elim (at_end t) [
-      | true ↦ some (no_items t)
+      | true ↦ Some (no_items t)
       | false ↦
-          let_some (slot (first_kind l) t) none λ x.
-          let_some (slot (second_kind l) x.rest) none λ y.
-          let_some (items_within n l y.rest) none λ r. some (with_item x.value y.value r)
+          let_some (slot (first_kind l) t) None λ x.
+          let_some (slot (second_kind l) x.rest) None λ y.
+          let_some (items_within n l y.rest) None λ r. Some (with_item x.value y.value r)
     ]
 
 abbrev pub is_empty_list : Listed → Bool
@@ -78,7 +78,7 @@ is_empty_list Listed.Fields = false
 unfoldable pub items : Listed → Text → Option Items
 items l t =
     elim (is_empty_list l) [
-      | true ↦ elim (at_end t) [ true ↦ some (no_items t) | false ↦ none ]
+      | true ↦ elim (at_end t) [ true ↦ Some (no_items t) | false ↦ None ]
       | false ↦ items_within (suc (length t)) l t
     ]
 
@@ -93,6 +93,6 @@ pub record Tail : Type 0 where
 
 unfoldable pub tail : Shape → Text → Option Tail
 tail s t =
-    let_some (three s.a s.b s.c t) none λ h.
-    let_some (items s.list h.rest) none λ r.
-    some (record { a = h.a; b = h.b; c = h.c; list = r.list; rest = r.rest })
+    let_some (three s.a s.b s.c t) None λ h.
+    let_some (items s.list h.rest) None λ r.
+    Some (record { a = h.a; b = h.b; c = h.c; list = r.list; rest = r.rest })

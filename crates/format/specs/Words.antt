@@ -1,8 +1,8 @@
 -- The words of the format: one table for each place where a word stands, and which word a field is. Assumes nothing.
 use Rattle.std.specs.Prelude.{ℕ, List, [], ◌∷◌, Bool}
 use Prim.Native.String.{String}
-use Rattle.std.proofs.Math.Option.{Option}
-use Rattle.std.proofs.Math.ListN.{get_elem?}
+use Rattle.std.specs.Prelude.{Option}
+use Rattle.std.specs.Prelude.{slice_get}
 use Rattle.model.specs.Common.{Text, bytes, let_some, first, eq_numbers}
 use Rattle.model.specs.Records.{UnaryOp, BinaryOp}
 use Rattle.format.specs.declared.LineWord.{LineWord}
@@ -33,7 +33,7 @@ place_in table t = first (is_keyword t) table
 
 -- the word at a place of the table
 unfoldable pub word_at : {A : Type 0} → List (Keyword A) → A → ℕ → A
-word_at table other n = let_some (get_elem? table n) other λ k. k.word
+word_at table other n = let_some (slice_get table n) other λ k. k.word
 
 -- the word that the field is; `other` where it is none of the table
 unfoldable pub word_in : {A : Type 0} → List (Keyword A) → A → Text → A

@@ -6,8 +6,9 @@ use native.Mathlib.Nat.{add-zero, zero-add}
 use native.Mathlib.Numerals.{add-one}
 use native.Mathlib.Omega.{arith}
 use mathlib.Core.List.{List, [], ◌∷◌, ◌++◌, map}
-use mathlib.Core.Option.{Option, none, some}
-use lib.ListN.{length, get_elem?}
+use Rattle.std.specs.Prelude.{Option, None, Some}
+use Rattle.std.specs.Prelude.{slice_get}
+use lib.ListN.{length}
 use borrow.Author.Tests.{not-true, not-false}
 use Rattle.std.specs.Prelude.{if◌then◌else◌}
 use Rattle.model.specs.Common.{next, first}
@@ -21,8 +22,8 @@ use Rattle.records.proofs.Lists.{each_unroll, each_ended, each_begun, each_lengt
 
 -- a place among the tests from n on, as a place among all
 unfoldable pub shifted : ℕ → Option ℕ → Option ℕ
-shifted n none = none
-shifted n (some k) = some (n + k)
+shifted n None = None
+shifted n (Some k) = Some (n + k)
 
 -- the place of the first test that fails, where the list's own place is n
 unfoldable pub fault_in : ℕ → List Bool → Option ℕ
@@ -30,41 +31,41 @@ fault_in n bs = shifted n (first not bs)
 
 shifted_next : (n : ℕ) (o : Option ℕ) → shifted n (next o) ≡ shifted (n + 1) o
 unfolding shifted
-shifted_next n none = refl
-shifted_next n (some k) = ap some (over n k)
+shifted_next n None = refl
+shifted_next n (Some k) = ap Some (over n k)
   where
     over : (n k : ℕ) → n + suc k ≡ n + 1 + k
     over n k = omega arith
 
 shifted_0 : (o : Option ℕ) → o ≡ shifted 0 o
 unfolding shifted
-shifted_0 none = refl
-shifted_0 (some k) = ap some (sym (zero-add k))
+shifted_0 None = refl
+shifted_0 (Some k) = ap Some (sym (zero-add k))
 
 pub fault_begin : (bs : List Bool) → first not bs ≡ fault_in 0 bs
 unfolding fault_in
 fault_begin bs = shifted_0 (first not bs)
 
 module _ (n : ℕ) where
-  pub fault_none : fault_in n [] ≡ none
+  pub fault_none : fault_in n [] ≡ None
   unfolding fault_in shifted first
   fault_none = refl
 
   module _ (b : Bool) (bs : List Bool) where
-    pub fault_here : b ≡ false → fault_in n (b ∷ bs) ≡ some n
+    pub fault_here : b ≡ false → fault_in n (b ∷ bs) ≡ Some n
     unfolding fault_in shifted first
-    fault_here e = ap (λ b. shifted n (if not b then some zero else next (first not bs))) e ∙ ap some (add-zero n)
+    fault_here e = ap (λ b. shifted n (if not b then Some zero else next (first not bs))) e ∙ ap Some (add-zero n)
 
     pub fault_later : b ≡ true → fault_in n (b ∷ bs) ≡ fault_in (n + 1) bs
     unfolding fault_in first
-    fault_later e = ap (λ b. shifted n (if not b then some zero else next (first not bs))) e ∙ shifted_next n (first not bs)
+    fault_later e = ap (λ b. shifted n (if not b then Some zero else next (first not bs))) e ∙ shifted_next n (first not bs)
 
 -- ------------------------------------------------------------------ part after part
 
 -- what the first part gives, or what the second gives, whose own place is n
 abbrev pub joined : Option ℕ → ℕ → Option ℕ → Option ℕ
-joined none n o = shifted n o
-joined (some k) n o = some k
+joined None n o = shifted n o
+joined (Some k) n o = Some k
 
 -- the place of the first test that fails in two lists, one behind the other
 pub first_parts : (bs cs : List Bool) → first not (bs ++ cs) ≡ joined (first not bs) (length bs) (first not cs)
@@ -74,21 +75,21 @@ first_parts (false ∷ bs) cs = refl
 first_parts (true ∷ bs) cs = ap next (first_parts bs cs) ∙ by (first not bs) (first not cs)
   where
     by : (p o : Option ℕ) → next (joined p (length bs) o) ≡ joined (next p) (suc (length bs)) o
-    by (some k) o = refl
-    by none none = refl
-    by none (some k) = ap some (over (length bs) k)
+    by (Some k) o = refl
+    by None None = refl
+    by None (Some k) = ap Some (over (length bs) k)
       where
         over : (a b : ℕ) → suc (a + b) ≡ suc a + b
         over a b = omega arith
 
 module _ (n : ℕ) (bs cs : List Bool) (o : Option ℕ) (is : o ≡ first not bs) where
   -- what is found in the first part is found
-  pub part_hit : (k : ℕ) → o ≡ some k → fault_in n (bs ++ cs) ≡ some (n + k)
+  pub part_hit : (k : ℕ) → o ≡ Some k → fault_in n (bs ++ cs) ≡ Some (n + k)
   unfolding fault_in shifted
   part_hit k e = ap (shifted n) (first_parts bs cs) ∙ ap (λ p. shifted n (joined p (length bs) (first not cs))) (sym is ∙ e)
 
   -- where the first part passes, the second begins behind it
-  pub part_miss : (l : ℕ) → l ≡ length bs → o ≡ none → fault_in n (bs ++ cs) ≡ fault_in (n + l) cs
+  pub part_miss : (l : ℕ) → l ≡ length bs → o ≡ None → fault_in n (bs ++ cs) ≡ fault_in (n + l) cs
   unfolding fault_in shifted
   part_miss l long e =
       ap (shifted n) (first_parts bs cs)
@@ -96,25 +97,25 @@ module _ (n : ℕ) (bs cs : List Bool) (o : Option ℕ) (is : o ≡ first not bs
       ∙ by (first not cs)
     where
       by : (o : Option ℕ) → shifted n (shifted l o) ≡ shifted (n + l) o
-      by none = refl
-      by (some k) = ap some (over n l k)
+      by None = refl
+      by (Some k) = ap Some (over n l k)
         where
           over : (a b c : ℕ) → a + (b + c) ≡ a + b + c
           over a b c = omega arith
 
 -- the last part
 module _ (n : ℕ) (bs : List Bool) (o : Option ℕ) (is : o ≡ first not bs) where
-  pub last_hit : (k : ℕ) → o ≡ some k → fault_in n bs ≡ some (n + k)
+  pub last_hit : (k : ℕ) → o ≡ Some k → fault_in n bs ≡ Some (n + k)
   unfolding fault_in shifted
   last_hit k e = ap (shifted n) (sym is ∙ e)
 
-  pub last_miss : o ≡ none → fault_in n bs ≡ none
+  pub last_miss : o ≡ None → fault_in n bs ≡ None
   unfolding fault_in shifted
   last_miss e = ap (shifted n) (sym is ∙ e)
 
 -- a place that is found is one of the list's
-pub first_below : (bs : List Bool) (k : ℕ) → first not bs ≡ some k → k < length bs
-first_below bs k e = let (b, found, fails) = passes_some (get_elem? bs k) not (first_passes not bs k e) in getElem_below bs k found
+pub first_below : (bs : List Bool) (k : ℕ) → first not bs ≡ Some k → k < length bs
+first_below bs k e = let (b, found, fails) = passes_some (slice_get bs k) not (first_passes not bs k e) in getElem_below bs k found
 
 -- ------------------------------------------------------------------ row after row
 
@@ -147,14 +148,14 @@ module _ {A : Type 0} (test : ℕ → A → Bool) (row : ℕ → A) (from count 
 
   -- the code's test of the row is `b`
   module _ (i : ℕ) (b : Bool) (below : i < count) (is : b ≡ test i (row (from + i))) where
-    pub row_hit : not b ≡ true → row_fault test row from count i ≡ some i
+    pub row_hit : not b ≡ true → row_fault test row from count i ≡ Some i
     row_hit e = row_turn i below ∙ fault_here i _ _ (sym is ∙ not-true b e)
 
     pub row_miss : not b ≡ false → row_fault test row from count i ≡ row_fault test row from count (i + 1)
     unfolding row_fault
     row_miss e = row_turn i below ∙ fault_later i _ _ (sym is ∙ not-false b e)
 
-  pub row_end : (i : ℕ) → count ≤ i → row_fault test row from count i ≡ none
+  pub row_end : (i : ℕ) → count ≤ i → row_fault test row from count i ≡ None
   unfolding row_fault map_from
   row_end i h = ap (λ xs. fault_in i (map_from test i xs)) (each_ended row from count i h) ∙ fault_none i
 

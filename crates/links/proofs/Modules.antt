@@ -4,7 +4,7 @@ use mathlib.Core.Bool.{Bool, true, false, not}
 use Prim.Native.Nat.{ℕ, ◌+◌}
 use native.Mathlib.Omega.{arith}
 use mathlib.Core.List.{List, [], ◌∷◌, ◌++◌, map}
-use mathlib.Core.Option.{Option, none, some}
+use Rattle.std.specs.Prelude.{Option, None, Some}
 use lib.ListN.{length, length-append, length-map}
 use Rattle.model.specs.Common.{is_empty, first}
 use Rattle.model.specs.Records.{Module}
@@ -28,7 +28,7 @@ scope_lines m = map_from scope_linked 0 m.scopes ++ type_lines m
 -- ------------------------------------------------------------------ the module's own line
 
 module _ (m : Module) (n : ℕ) (long : n ≡ length m.scopes) where
-  pub no_scope : n ≡ 0 → some 0 ≡ first not (module_lines m)
+  pub no_scope : n ≡ 0 → Some 0 ≡ first not (module_lines m)
   unfolding module_lines
   no_scope e = sym (fault_begin (module_lines m) ∙ fault_here 0 (not (is_empty m.scopes)) (scope_lines m) (ap not (empty m.scopes (sym long ∙ e))))
     where
@@ -47,10 +47,10 @@ module _ (m : Module) (n : ℕ) (long : n ≡ length m.scopes) where
 -- ------------------------------------------------------------------ past the rows of a kind, of which each passes
 
 module _ {A : Type 0} (at : ℕ) (xs : List A) (bs : List Bool) (n : ℕ) (long : n ≡ length xs) (o : Option ℕ) where
-  pub past_numbered : (test : ℕ → A → Bool) → o ≡ first not (map_from test 0 xs) → o ≡ none → fault_in at (map_from test 0 xs ++ bs) ≡ fault_in (at + n) bs
+  pub past_numbered : (test : ℕ → A → Bool) → o ≡ first not (map_from test 0 xs) → o ≡ None → fault_in at (map_from test 0 xs ++ bs) ≡ fault_in (at + n) bs
   past_numbered test is e = part_miss at (map_from test 0 xs) bs o is n (long ∙ sym (map_from_length test 0 xs)) e
 
-  pub past_rows : (test : A → Bool) → o ≡ first not (map test xs) → o ≡ none → fault_in at (map test xs ++ bs) ≡ fault_in (at + n) bs
+  pub past_rows : (test : A → Bool) → o ≡ first not (map test xs) → o ≡ None → fault_in at (map test xs ++ bs) ≡ fault_in (at + n) bs
   past_rows test is e = part_miss at (map test xs) bs o is n (long ∙ sym (length-map xs test)) e
 
 -- ------------------------------------------------------------------ how many there are

@@ -3,7 +3,7 @@ use mathlib.Core.Path.{◌≡◌, sym, ap, ◌∙◌}
 use mathlib.Core.Bool.{Bool, true, false, not, ◌&&◌, ◌||◌}
 use Prim.Native.Nat.{ℕ, ◌≤◌, ◌<◌}
 use mathlib.Core.List.{List}
-use mathlib.Core.Option.{Option, none, some}
+use Rattle.std.specs.Prelude.{Option, None, Some}
 use lib.ListN.{length}
 use lib.Dec.{ltb}
 use borrow.Author.Tests.{lt-ltb, le-ltb}
@@ -24,7 +24,7 @@ abbrev type_test : ℕ → ℕ → Module → Bool
 type_test t s the_module = ltb t (length the_module.types) && ltb s (length the_module.scopes)
 
 -- the module is there, or not
-module _ (file words : List ℕ) (m : ℕ) (b : Bool) (is : module_at (index_of file words) m ≡ (if b then some (module_row file words m) else none)) where
+module _ (file words : List ℕ) (m : ℕ) (b : Bool) (is : module_at (index_of file words) m ≡ (if b then Some (module_row file words m) else None)) where
   abbrev index : Index
   index = index_of file words
 
@@ -32,10 +32,10 @@ module _ (file words : List ℕ) (m : ℕ) (b : Bool) (is : module_at (index_of 
   the_module = module_row file words m
 
   without : (test : Module → Bool) → b ≡ false → true ≡ let_some (module_at index m) true test
-  without test h = sym (ap (λ o. let_some o true test) (is ∙ ap (λ b. if b then some the_module else none) h))
+  without test h = sym (ap (λ o. let_some o true test) (is ∙ ap (λ b. if b then Some the_module else None) h))
 
   within : (test : Module → Bool) (c : Bool) → b ≡ true → c ≡ test the_module → c ≡ let_some (module_at index m) true test
-  within test c h e = e ∙ sym (ap (λ o. let_some o true test) (is ∙ ap (λ b. if b then some the_module else none) h))
+  within test c h e = e ∙ sym (ap (λ o. let_some o true test) (is ∙ ap (λ b. if b then Some the_module else None) h))
 
   module _ (e : ℕ) (t : Option ℕ) where
     pub context_no_module : b ≡ false → true ≡ question_linked index (Question.expr m e t)

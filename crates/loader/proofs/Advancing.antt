@@ -3,7 +3,7 @@ use Prim.Native.Nat.{ℕ, zero, suc, ◌+◌, ◌-◌, ◌*◌, ◌≤◌, ◌<�
 use mathlib.Core.Path.{◌≡◌, refl, sym, ap, ap₂, ◌∙◌}
 use mathlib.Core.List.{List, [], ◌∷◌, ◌++◌}
 use mathlib.Core.Bool.{Bool, true, false, not, ◌&&◌, false≢true}
-use mathlib.Core.Option.{Option, none, some}
+use Rattle.std.specs.Prelude.{Option, None, Some}
 use native.Mathlib.Nat.{zero-add}
 use native.Mathlib.Omega.{arith}
 use lib.Dec.{eqb}
@@ -59,7 +59,7 @@ module _ (n : Counts) (count : ℕ) where
   counted_is w w' stage e p =
       (λ i. with_stage ((p ∙ ap stage_of e ∙ sym (stage_after w')) i) (counts_after w' n count)) ∙ ap (λ v. counts_after v n count) (sym e)
 
-pub no_line : (t : Text) → line_from LineWord.Other t ≡ none
+pub no_line : (t : Text) → line_from LineWord.Other t ≡ None
 unfolding line_from
 no_line t = refl
 
@@ -70,7 +70,7 @@ module _ {A : Type 0} (test : A → Bool) (g : ℕ → A) (n i : ℕ) (h : i < n
   unfolding first
   found_here e = ap (λ l. not (is_none (first test l))) (each_unroll g 0 n i h) ∙ at (test (g (0 + i))) (ap (λ k. test (g k)) (zero-add i) ∙ e)
     where
-      at : (b : Bool) → b ≡ true → not (is_none (if b then some zero else next (first test (each g (0 + (i + 1)) (n - (i + 1)))))) ≡ true
+      at : (b : Bool) → b ≡ true → not (is_none (if b then Some zero else next (first test (each g (0 + (i + 1)) (n - (i + 1)))))) ≡ true
       at true e = refl
       at false e = absurd (false≢true e)
 
@@ -79,10 +79,10 @@ module _ {A : Type 0} (test : A → Bool) (g : ℕ → A) (n i : ℕ) (h : i < n
   found_later e = ap (λ l. not (is_none (first test l))) (each_unroll g 0 n i h) ∙ at (test (g (0 + i))) (ap (λ k. test (g k)) (zero-add i) ∙ e)
     where
       none_next : (o : Option ℕ) → not (is_none (next o)) ≡ not (is_none o)
-      none_next none = refl
-      none_next (some k) = refl
+      none_next None = refl
+      none_next (Some k) = refl
 
-      at : (b : Bool) → b ≡ false → not (is_none (if b then some zero else next (first test (each g (0 + (i + 1)) (n - (i + 1)))))) ≡ not (is_none (first test (each g (0 + (i + 1)) (n - (i + 1)))))
+      at : (b : Bool) → b ≡ false → not (is_none (if b then Some zero else next (first test (each g (0 + (i + 1)) (n - (i + 1)))))) ≡ not (is_none (first test (each g (0 + (i + 1)) (n - (i + 1)))))
       at true e = absurd (false≢true (sym e))
       at false e = none_next (first test (each g (0 + (i + 1)) (n - (i + 1))))
 
@@ -97,7 +97,7 @@ found_begun test g n = ap (λ l. not (is_none (first test l))) (each_begun g 0 n
 first_by : {A B : Type 0} (f : A → B) (test : B → Bool) (g : ℕ → A) (start n : ℕ) → first (λ a. test (f a)) (each g start n) ≡ first test (each (λ i. f (g i)) start n)
 unfolding first each
 first_by f test g start zero = refl
-first_by f test g start (suc n) = ap (λ o. if test (f (g start)) then some zero else next o) (first_by f test g (suc start) n)
+first_by f test g start (suc n) = ap (λ o. if test (f (g start)) then Some zero else next o) (first_by f test g (suc start) n)
 
 pub again_is : (version : ℕ) (file words : List ℕ) (n : Counts) → is_again (a_module (name_at file words n.modules)) (index_so_far version file words n) ≡ again file words n.modules
 unfolding is_again module_by_name module_named again index_so_far module_by

@@ -3,7 +3,7 @@ use Prim.Native.Nat.{ℕ, zero, suc, ◌+◌, ◌*◌, ◌≤◌}
 use mathlib.Core.Path.{◌≡◌, refl, sym, ap, ap₂, ◌∙◌}
 use mathlib.Core.List.{List, [], ◌∷◌, map}
 use mathlib.Core.Bool.{true, false, not, false≢true}
-use mathlib.Core.Option.{Option, none, some}
+use Rattle.std.specs.Prelude.{Option, None, Some}
 use native.Mathlib.Omega.{arith}
 use lib.Dec.{eqb}
 use borrow.Author.Tests.{ne_eqb}
@@ -59,12 +59,12 @@ positive n = ne_eqb (suc n) 0 (λ e. omega arith)
 -- ------------------------------------------------------------------ links and names that may be missing
 
 pub linked_is : (o : Option ℕ) → maybe_num (linked o) ≡ o
-linked_is none = refl
-linked_is (some n) = refl
+linked_is None = refl
+linked_is (Some n) = refl
 
 named_is : (o : Option Text) → maybe_txt (named o) ≡ o
-named_is none = refl
-named_is (some t) = refl
+named_is None = refl
+named_is (Some t) = refl
 
 -- ------------------------------------------------------------------ lists
 
@@ -103,7 +103,7 @@ module _ (first count list : ℕ) (low : first ≤ 2048) (is : list ≡ first + 
 
 pub record RowOf {A : Type 0} (read : Option A) (items : A → ℕ) (count : ℕ) (Few : Type 0) (row : A) : Type 0 where
   pub value : A
-  pub is : read ≡ some value
+  pub is : read ≡ Some value
   pub counts : items value ≡ count
   pub held : Few → value ≡ row
 
@@ -203,7 +203,7 @@ module _ (file words t : List ℕ) (first : ℕ) (x : Tail) (low : first ≤ 204
   definition_kind_row DefinitionWord.Loop h known path = record { value = DefinitionKind.LoopVariable; is = refl; counts = sym (h.none refl); held = λ few. refl }
   definition_kind_row DefinitionWord.Other h known path = absurd (known refl)
 
-  pub definition_path_lost : (w : DefinitionWord) (h : TailHeld file words (definition_shape w) t first x) → path_fits (definition_number w) (parts x.c).low x.count ≡ false → definition_as w (tail_by file (definition_shape w) x h.list) ≡ none
+  pub definition_path_lost : (w : DefinitionWord) (h : TailHeld file words (definition_shape w) t first x) → path_fits (definition_number w) (parts x.c).low x.count ≡ false → definition_as w (tail_by file (definition_shape w) x h.list) ≡ None
   unfolding definition_as
   definition_path_lost DefinitionWord.Fn h path = absurd (false≢true (sym path))
   definition_path_lost DefinitionWord.Struct h path = absurd (false≢true (sym path))
@@ -289,9 +289,9 @@ module _ (file words t : List ℕ) (first : ℕ) (x : Tail) (low : first ≤ 204
   -- ---------------------------------------------------------------- Q
 
   pub question_row_is : (w : QuestionWord) (h : TailHeld file words (question_shape w) t first x) → (question_number w ≡ 4 → ⊥)
-      → question_as w (tail_by file (question_shape w) x h.list) ≡ some (question_by (question_number w) (parts x.a).low (parts x.b).low (parts x.c).low)
+      → question_as w (tail_by file (question_shape w) x h.list) ≡ Some (question_by (question_number w) (parts x.a).low (parts x.b).low (parts x.c).low)
   unfolding question_as question_by option_at
-  question_row_is QuestionWord.Expr h known = ap (λ o. some (Question.expr (parts x.a).low (parts x.b).low o)) (linked_is (link_by (parts x.c).low))
+  question_row_is QuestionWord.Expr h known = ap (λ o. Some (Question.expr (parts x.a).low (parts x.b).low o)) (linked_is (link_by (parts x.c).low))
   question_row_is QuestionWord.Def h known = refl
   question_row_is QuestionWord.OfType h known = refl
   question_row_is QuestionWord.At h known = refl
@@ -307,7 +307,7 @@ module _ (file words t : List ℕ) (first : ℕ) (x : Tail) (low : first ≤ 204
 
 -- ------------------------------------------------------------------ no word of the place
 
-pub type_other : (w : TypeWord) (x : tails.Tail) → type_number w ≡ 7 → type_as w x ≡ none
+pub type_other : (w : TypeWord) (x : tails.Tail) → type_number w ≡ 7 → type_as w x ≡ None
 unfolding type_as
 type_other TypeWord.Felt x e = absurd (omega arith)
 type_other TypeWord.Bool x e = absurd (omega arith)
@@ -318,7 +318,7 @@ type_other TypeWord.Tuple x e = absurd (omega arith)
 type_other TypeWord.Array x e = absurd (omega arith)
 type_other TypeWord.Other x e = refl
 
-pub definition_other : (w : DefinitionWord) (x : tails.Tail) → definition_number w ≡ 7 → definition_as w x ≡ none
+pub definition_other : (w : DefinitionWord) (x : tails.Tail) → definition_number w ≡ 7 → definition_as w x ≡ None
 unfolding definition_as
 definition_other DefinitionWord.Fn x e = absurd (omega arith)
 definition_other DefinitionWord.Struct x e = absurd (omega arith)
@@ -329,7 +329,7 @@ definition_other DefinitionWord.Use x e = absurd (omega arith)
 definition_other DefinitionWord.Loop x e = absurd (omega arith)
 definition_other DefinitionWord.Other x e = refl
 
-pub origin_other : (w : OriginWord) (x : tails.Three) → origin_number w ≡ 6 → origin_as w x ≡ none
+pub origin_other : (w : OriginWord) (x : tails.Three) → origin_number w ≡ 6 → origin_as w x ≡ None
 unfolding origin_as
 origin_other OriginWord.Plain x e = absurd (omega arith)
 origin_other OriginWord.Field x e = absurd (omega arith)
@@ -339,7 +339,7 @@ origin_other OriginWord.Return x e = absurd (omega arith)
 origin_other OriginWord.Cond x e = absurd (omega arith)
 origin_other OriginWord.Other x e = refl
 
-pub node_other : (w : NodeWord) (x : tails.Tail) → node_number w ≡ 16 → node_as w x ≡ none
+pub node_other : (w : NodeWord) (x : tails.Tail) → node_number w ≡ 16 → node_as w x ≡ None
 unfolding node_as
 node_other NodeWord.Lit x e = absurd (omega arith)
 node_other NodeWord.Bool x e = absurd (omega arith)
@@ -359,7 +359,7 @@ node_other NodeWord.New x e = absurd (omega arith)
 node_other NodeWord.Paren x e = absurd (omega arith)
 node_other NodeWord.Other x e = refl
 
-pub question_other : (w : QuestionWord) (x : tails.Tail) → question_number w ≡ 4 → question_as w x ≡ none
+pub question_other : (w : QuestionWord) (x : tails.Tail) → question_number w ≡ 4 → question_as w x ≡ None
 unfolding question_as
 question_other QuestionWord.Expr x e = absurd (omega arith)
 question_other QuestionWord.Def x e = absurd (omega arith)
@@ -371,7 +371,7 @@ question_other QuestionWord.Other x e = refl
 
 pub origin_row_is : (file : Text) (w : OriginWord) (a b c : Words) (rest : Text) → (origin_number w ≡ 6 → ⊥)
     → origin_as w (record { a = value_by (origin_shape w).a file a; b = value_by (origin_shape w).b file b; c = value_by Kind.Nothing file c; rest = rest })
-    ≡ some (origin_by file (origin_number w) a.low b.low)
+    ≡ Some (origin_by file (origin_number w) a.low b.low)
 unfolding origin_as origin_by option_at
 origin_row_is file OriginWord.Plain a b c rest known = refl
 origin_row_is file OriginWord.Field a b c rest known = refl
@@ -381,7 +381,7 @@ origin_row_is file OriginWord.Return a b c rest known = refl
 origin_row_is file OriginWord.Cond a b c rest known = refl
 origin_row_is file OriginWord.Other a b c rest known = absurd (known refl)
 
-pub scope_row_is : (w : ScopeWord) (parent : ℕ) → scope_fits parent w ≡ true → scope_as (maybe_num (linked (link_by parent))) w ≡ some (record { parent = link_by parent; kind = scope_kind_by (scope_number w) })
+pub scope_row_is : (w : ScopeWord) (parent : ℕ) → scope_fits parent w ≡ true → scope_as (maybe_num (linked (link_by parent))) w ≡ Some (record { parent = link_by parent; kind = scope_kind_by (scope_number w) })
 unfolding scope_as scope_kind_by option_at
 scope_row_is ScopeWord.Module zero e = refl
 scope_row_is ScopeWord.Module (suc p) e = absurd (false≢true (sym (positive p) ∙ e))
@@ -394,7 +394,7 @@ scope_row_is ScopeWord.Loop (suc p) e = refl
 scope_row_is ScopeWord.Other zero e = absurd (false≢true e)
 scope_row_is ScopeWord.Other (suc p) e = absurd (false≢true e)
 
-pub scope_lost : (w : ScopeWord) (parent : ℕ) → scope_fits parent w ≡ false → scope_as (maybe_num (linked (link_by parent))) w ≡ none
+pub scope_lost : (w : ScopeWord) (parent : ℕ) → scope_fits parent w ≡ false → scope_as (maybe_num (linked (link_by parent))) w ≡ None
 unfolding scope_as
 scope_lost ScopeWord.Module zero e = absurd (false≢true (sym e))
 scope_lost ScopeWord.Module (suc p) e = refl

@@ -3,7 +3,7 @@ use Prim.Native.Nat.{ℕ, ◌+◌, ◌≤◌}
 use mathlib.Core.Path.{◌≡◌, sym, ap, subst, ◌∙◌}
 use mathlib.Core.List.{List, [], ◌∷◌}
 use mathlib.Core.Bool.{true, false}
-use mathlib.Core.Option.{Option, none, some}
+use Rattle.std.specs.Prelude.{Option, None, Some}
 use native.Mathlib.Omega.{arith}
 use lib.ListN.{drop}
 use Rattle.model.specs.Common.{Text, let_some}
@@ -32,24 +32,24 @@ use Rattle.loader.proofs.Leaving.{left_then, behind_left, put_left, definition_a
 use Rattle.loader.proofs.Decoding.{RowOf, definition_kind_row, definition_path_lost, definition_listed, definition_other}
 
 module _ (file t : Text) where
-  pub definition_no_first : tails.three Kind.Number Kind.Name Kind.Position t ≡ none → line_from LineWord.D t ≡ none
+  pub definition_no_first : tails.three Kind.Number Kind.Name Kind.Position t ≡ None → line_from LineWord.D t ≡ None
   unfolding line_from definition_line
   definition_no_first p = rw p
 
   module _ (scope name start : Words) (e : ℕ)
-      (head : tails.three Kind.Number Kind.Name Kind.Position t ≡ some (record { a = value_by Kind.Number file scope; b = value_by Kind.Name file name; c = value_by Kind.Position file start; rest = drop e file })) where
-    pub definition_no_second : tails.three Kind.Position Kind.Position Kind.Position (drop e file) ≡ none → line_from LineWord.D t ≡ none
+      (head : tails.three Kind.Number Kind.Name Kind.Position t ≡ Some (record { a = value_by Kind.Number file scope; b = value_by Kind.Name file name; c = value_by Kind.Position file start; rest = drop e file })) where
+    pub definition_no_second : tails.three Kind.Position Kind.Position Kind.Position (drop e file) ≡ None → line_from LineWord.D t ≡ None
     unfolding line_from definition_line
     definition_no_second p = rw (head, p)
 
     module _ (end full_start full_end : Words) (f : ℕ)
-        (spans : tails.three Kind.Position Kind.Position Kind.Position (drop e file) ≡ some (record { a = value_by Kind.Position file end; b = value_by Kind.Position file full_start; c = value_by Kind.Position file full_end; rest = drop f file })) where
-      pub definition_no_word : word_here (drop f file) ≡ none → line_from LineWord.D t ≡ none
+        (spans : tails.three Kind.Position Kind.Position Kind.Position (drop e file) ≡ Some (record { a = value_by Kind.Position file end; b = value_by Kind.Position file full_start; c = value_by Kind.Position file full_end; rest = drop f file })) where
+      pub definition_no_word : word_here (drop f file) ≡ None → line_from LineWord.D t ≡ None
       unfolding line_from definition_line
       definition_no_word p = rw (head, spans, p)
 
-      module _ (field : Text) (q : ℕ) (here : word_here (drop f file) ≡ some (record { word = field; rest = drop q file })) (w : DefinitionWord) (is_IsWord : w ≡ definition_word_of field) where
-        pub definition_no_tail : tails.tail (definition_shape w) (drop q file) ≡ none → line_from LineWord.D t ≡ none
+      module _ (field : Text) (q : ℕ) (here : word_here (drop f file) ≡ Some (record { word = field; rest = drop q file })) (w : DefinitionWord) (is_IsWord : w ≡ definition_word_of field) where
+        pub definition_no_tail : tails.tail (definition_shape w) (drop q file) ≡ None → line_from LineWord.D t ≡ None
         unfolding line_from definition_line
         definition_no_tail p = rw (head, spans, here, sym is_IsWord, p)
 
@@ -60,18 +60,18 @@ module _ (file t : Text) where
             (record { a = value_by Kind.Position file end; b = value_by Kind.Position file full_start; c = value_by Kind.Position file full_end; rest = drop f file })
             kind
 
-        definition_read : (x : tails.Tail) (o : Option DefinitionKind) → tails.tail (definition_shape w) (drop q file) ≡ some x → definition_as w x ≡ o
-            → line_from LineWord.D t ≡ (let_some o none λ kind. some (record { entry = a_definition (with_kind kind); rest = x.rest }))
+        definition_read : (x : tails.Tail) (o : Option DefinitionKind) → tails.tail (definition_shape w) (drop q file) ≡ Some x → definition_as w x ≡ o
+            → line_from LineWord.D t ≡ (let_some o None λ kind. Some (record { entry = a_definition (with_kind kind); rest = x.rest }))
         unfolding line_from definition_line
         definition_read x o p r = rw (head, spans, here, sym is_IsWord, p, r)
 
         module _ {words' : List ℕ} (n : Counts) (x : Tail) (h : TailHeld file words' (definition_shape w) (drop q file) n.items x) (low : n.items ≤ 2048) where
-          pub definition_no_kind : definition_number w ≡ 7 → line_from LineWord.D t ≡ none
-          definition_no_kind r = definition_read (tail_by file (definition_shape w) x h.list) none h.is (definition_other w (tail_by file (definition_shape w) x h.list) r)
+          pub definition_no_kind : definition_number w ≡ 7 → line_from LineWord.D t ≡ None
+          definition_no_kind r = definition_read (tail_by file (definition_shape w) x h.list) None h.is (definition_other w (tail_by file (definition_shape w) x h.list) r)
 
-          pub definition_no_path : path_fits (definition_number w) (parts x.c).low x.count ≡ false → line_from LineWord.D t ≡ none
+          pub definition_no_path : path_fits (definition_number w) (parts x.c).low x.count ≡ false → line_from LineWord.D t ≡ None
           definition_no_path r =
-              definition_read (tail_by file (definition_shape w) x h.list) none h.is (definition_path_lost file words' (drop q file) n.items x low w h r)
+              definition_read (tail_by file (definition_shape w) x h.list) None h.is (definition_path_lost file words' (drop q file) n.items x low w h r)
 
           module _ {words words₁ words₂ words₃ : List ℕ} (fine : Fine file words n) (room : HasRoom LineWord.D n) (known : definition_number w ≡ 7 → ⊥)
               (path : path_fits (definition_number w) (parts x.c).low x.count ≡ true) (behind : Behind n.items words words')
@@ -106,7 +106,7 @@ module _ (file t : Text) where
                   line =
                       record {
                         entry = a_definition (with_kind value.value);
-                        is = definition_read (tail_by file (definition_shape w) x kept.list) (some value.value) kept.is value.is;
+                        is = definition_read (tail_by file (definition_shape w) x kept.list) (Some value.value) kept.is value.is;
                         counts = value.counts;
                         held = λ few. ap (λ k. a_definition (with_kind k)) (value.held few) ∙ ap a_definition (sym row_is);
                         stays = λ few words''' left.

@@ -3,7 +3,7 @@ use Prim.Native.Nat.{ℕ, ◌+◌, ◌-◌, ◌≤◌, ◌<◌}
 use mathlib.Core.Path.{◌≡◌, sym, ap, ◌∙◌}
 use mathlib.Core.List.{List, ◌++◌, map, append_assoc}
 use mathlib.Core.Bool.{Bool, not}
-use mathlib.Core.Option.{Option, none, some}
+use Rattle.std.specs.Prelude.{Option, None, Some}
 use native.Mathlib.Nat.{zero-add}
 use native.Mathlib.Omega.{arith}
 use lib.ListN.{length, length-map}
@@ -49,7 +49,7 @@ module _ (file words : List ℕ) where
         ∙ ap (λ k. fault_in place (module_lines (module_row file words k) ++ (modules_lines (each (module_row file words) (0 + (m + 1)) (module_count words - (m + 1))) ++ questions_lines))) (zero-add m)
 
     module _ (r : Fault) (is : fault_of r ≡ first not (module_lines (module_row file words m))) where
-      pub module_hit : (k : ℕ) → r ≡ Fault.At k → faults_from place m ≡ some (place + k)
+      pub module_hit : (k : ℕ) → r ≡ Fault.At k → faults_from place m ≡ Some (place + k)
       module_hit k e = unrolled ∙ part_hit place (module_lines (module_row file words m)) rest (fault_of r) is k (ap fault_of e)
 
       pub hit_below : (k : ℕ) → r ≡ Fault.At k → k < length (module_lines (module_row file words m))
@@ -64,7 +64,7 @@ module _ (file words : List ℕ) where
     unfolding faults_from modules_lines
     only_questions = ap (λ ms. fault_in place (modules_lines ms ++ questions_lines)) (each_ended (module_row file words) 0 (module_count words) m ended)
 
-    pub question_hit : (k : ℕ) → r ≡ Fault.At k → faults_from place m ≡ some (place + k)
+    pub question_hit : (k : ℕ) → r ≡ Fault.At k → faults_from place m ≡ Some (place + k)
     question_hit k e = only_questions ∙ last_hit place questions_lines (fault_of r) is k (ap fault_of e)
 
     pub question_below : (k : ℕ) → r ≡ Fault.At k → k < question_count words
@@ -73,19 +73,19 @@ module _ (file words : List ℕ) where
         omega
         (arith, first_below questions_lines k (sym is ∙ ap fault_of e), length-map the_index.questions (question_linked the_index), each_length (question_row words) 0 (question_count words))
 
-    pub question_miss : r ≡ Fault.Nothing → faults_from place m ≡ none
+    pub question_miss : r ≡ Fault.Nothing → faults_from place m ≡ None
     question_miss e = only_questions ∙ last_miss place questions_lines (fault_of r) is (ap fault_of e)
 
   -- line 2 has place 0
   module _ (place m : ℕ) (so_far : first not (linked_lines the_index) ≡ faults_from place m) where
-    pub fault_found : (k : ℕ) → faults_from place m ≡ some (place + k) → some (2 + place + k) ≡ link_fault the_index
+    pub fault_found : (k : ℕ) → faults_from place m ≡ Some (place + k) → Some (2 + place + k) ≡ link_fault the_index
     unfolding link_fault
     fault_found k e =
-        ap some (sum place k) ∙ sym (ap (λ o. let_some o none λ n. some (2 + n)) (so_far ∙ e))
+        ap Some (sum place k) ∙ sym (ap (λ o. let_some o None λ n. Some (2 + n)) (so_far ∙ e))
       where
         sum : (a b : ℕ) → 2 + a + b ≡ 2 + (a + b)
         sum a b = omega arith
 
-    pub fault_missing : faults_from place m ≡ none → none ≡ link_fault the_index
+    pub fault_missing : faults_from place m ≡ None → None ≡ link_fault the_index
     unfolding link_fault
-    fault_missing e = sym (ap (λ o. let_some {B = Option ℕ} o none λ n. some (2 + n)) (so_far ∙ e))
+    fault_missing e = sym (ap (λ o. let_some {B = Option ℕ} o None λ n. Some (2 + n)) (so_far ∙ e))

@@ -3,7 +3,7 @@ use Prim.Native.Nat.{ℕ, zero, suc, ◌+◌, ◌*◌, ◌%◌, ◌≤◌, ◌<�
 use mathlib.Core.Path.{◌≡◌, refl, sym, ap, subst, ◌∙◌}
 use mathlib.Core.List.{List, [], ◌∷◌}
 use mathlib.Core.Bool.{Bool, true, false, ◌&&◌, not, false≢true}
-use mathlib.Core.Option.{Option, none, some}
+use Rattle.std.specs.Prelude.{Option, None, Some}
 use native.Mathlib.Omega.{arith}
 use lib.Dec.{leb}
 use lib.ListN.{length, drop}
@@ -72,9 +72,9 @@ number_fits P most holds t = of (plain_number t)
     bounded n true e = this (number n) (holds n (leb_le n most e))
     bounded n false e = nothing
 
-    of : (o : Option ℕ) → Every P (numbered (let_some o none λ n. only_if (leb n most) n))
-    of none = nothing
-    of (some n) = bounded n (leb n most) refl
+    of : (o : Option ℕ) → Every P (numbered (let_some o None λ n. only_if (leb n most) n))
+    of None = nothing
+    of (Some n) = bounded n (leb n most) refl
 
 -- a place in a list is below its length
 place_bound : {A : Type 0} (test : A → Bool) (xs : List A) → Every (λ (n : ℕ). n < length xs) (first test xs)
@@ -82,7 +82,7 @@ unfolding first
 place_bound test [] = nothing
 place_bound test (x ∷ xs) = of (test x) (place_bound test xs)
   where
-    of : (b : Bool) {o : Option ℕ} → Every (λ (n : ℕ). n < length xs) o → Every (λ (n : ℕ). n < suc (length xs)) (if b then some zero else next o)
+    of : (b : Bool) {o : Option ℕ} → Every (λ (n : ℕ). n < length xs) o → Every (λ (n : ℕ). n < suc (length xs)) (if b then Some zero else next o)
     of true h = this zero (omega arith)
     of false nothing = nothing
     of false (this n p) = this (suc n) (omega arith)
@@ -107,7 +107,7 @@ dash_fits : (P : Value → Type 0) (t : Text) {o : Option Value} → P absent �
 unfolding or_dash
 dash_fits P t {o} p h = of (is_dash t)
   where
-    of : (b : Bool) → Every P (elim b [ true ↦ some absent | false ↦ o ])
+    of : (b : Bool) → Every P (elim b [ true ↦ Some absent | false ↦ o ])
     of true = this absent p
     of false = h
 
@@ -148,7 +148,7 @@ slot_fits k t = of k (is_nothing k) refl
     none_read Kind.BinaryOp e = absurd (false≢true e)
     none_read Kind.Unused e = tt
 
-    of : (k : Kind) (b : Bool) → is_nothing k ≡ b → Every (λ (r : Read). Fits k r.value) (elim b [ true ↦ some (record { value = absent; rest = t }) | false ↦ slot_field k t ])
+    of : (k : Kind) (b : Bool) → is_nothing k ≡ b → Every (λ (r : Read). Fits k r.value) (elim b [ true ↦ Some (record { value = absent; rest = t }) | false ↦ slot_field k t ])
     of k true e = this (record { value = absent; rest = t }) (none_read k e)
     of k false e = every_after (behind_tab t) λ u. held k (behind u) (value_fits k (field_of u))
 
@@ -224,14 +224,14 @@ visible_first b t e = leb_le 33 b (and_left (leb 33 b) (leb b 126) (of (leb 33 b
 
 -- a byte that is not 0 lies in the file
 byte_inside : (file : Text) (p : ℕ) → 1 ≤ word file p → p < length file
-byte_inside [] zero h = absurd (none h)
+byte_inside [] zero h = absurd (None h)
   where
-    none : 1 ≤ 0 → ⊥
-    none h = omega arith
-byte_inside [] (suc p) h = absurd (none h)
+    None : 1 ≤ 0 → ⊥
+    None h = omega arith
+byte_inside [] (suc p) h = absurd (None h)
   where
-    none : 1 ≤ 0 → ⊥
-    none h = omega arith
+    None : 1 ≤ 0 → ⊥
+    None h = omega arith
 byte_inside (b ∷ file) zero h = omega arith
 byte_inside (b ∷ file) (suc p) h = let less = byte_inside file p h in omega arith
 
@@ -262,11 +262,11 @@ name_inside file p n e =
     let long = each_length (word file) p n in
     record { inside = begun n parts.least parts.visible; least = subst (λ k. 1 ≤ k) long parts.least; most = subst (λ k. k ≤ 64) long parts.most }
   where
-    none : 1 ≤ 0 → ⊥
-    none h = omega arith
+    None : 1 ≤ 0 → ⊥
+    None h = omega arith
 
     begun : (n : ℕ) → 1 ≤ length (bytes_at file p n) → all_visible (bytes_at file p n) ≡ true → p < length file
-    begun zero h v = absurd (none h)
+    begun zero h v = absurd (None h)
     begun (suc n) h v = let first : 33 ≤ word file p = visible_first (word file p) (bytes_at file (suc p) n) v in byte_inside file p (omega arith)
 
 pub text_named : (k : Kind) (file : Text) (p n : ℕ) → Fits k (text (bytes_at file p n)) → Named file p n
@@ -307,13 +307,13 @@ module _ (s t : Text) (k : Kind) (r : Slot) (q : slot_is s r ≡ slot k t) (v : 
   pub held_fits : {u : held.Value} → v ≡ u → Fits k (value_is s u)
   held_fits h = subst (λ x. Fits k (value_is s x)) h (every_some (slot_fits k t) (slot_found s t k r q v e found))
 
-  pub words_held : {u : held.Value} (w : ℕ) → v ≡ u → value_is s u ≡ value_by k s (parts w) → some (record { value = value_by k s (parts w); rest = drop e s }) ≡ slot k t
+  pub words_held : {u : held.Value} (w : ℕ) → v ≡ u → value_is s u ≡ value_by k s (parts w) → Some (record { value = value_by k s (parts w); rest = drop e s }) ≡ slot k t
   words_held w h same =
-      sym (slot_found s t k r q v e found ∙ ap (λ x. some (record { value = x; rest = drop e s })) (ap (value_is s) h ∙ same))
+      sym (slot_found s t k r q v e found ∙ ap (λ x. Some (record { value = x; rest = drop e s })) (ap (value_is s) h ∙ same))
 
 module _ (s t : Text) (k : Kind) (r : SlotWords) (q : slot_words_is k s r ≡ slot k t) where
-  pub words_found : (w e : ℕ) → r ≡ SlotWords.Are w e → slot k t ≡ some (record { value = value_by k s (parts w); rest = drop e s })
+  pub words_found : (w e : ℕ) → r ≡ SlotWords.Are w e → slot k t ≡ Some (record { value = value_by k s (parts w); rest = drop e s })
   words_found w e h = sym q ∙ ap (slot_words_is k s) h
 
-  pub words_lost : r ≡ SlotWords.Wrong → slot k t ≡ none
+  pub words_lost : r ≡ SlotWords.Wrong → slot k t ≡ None
   words_lost h = sym q ∙ ap (slot_words_is k s) h

@@ -3,7 +3,7 @@ use Prim.Native.Nat.{ℕ, suc, ◌+◌, ◌*◌, ◌-◌, ◌≤◌, ◌<◌}
 use mathlib.Core.Path.{◌≡◌, refl, sym, ap, ◌∙◌}
 use mathlib.Core.List.{List, [], ◌∷◌, ◌++◌, append_assoc, append-nil}
 use mathlib.Core.Bool.{true, false, not, false≢true}
-use mathlib.Core.Option.{Option, none, some}
+use Rattle.std.specs.Prelude.{Option, None, Some}
 use native.Mathlib.Omega.{arith}
 use lib.Dec.{eqb}
 use lib.ListN.{length, drop, set, get_or, length-append, length-set, drop_of_length-le}
@@ -67,38 +67,38 @@ first_other Listed.MaybeNumbers value name e = refl
 first_other Listed.Fields value name e = absurd (false≢true (sym e))
 
 module _ (l : Listed) (file t : Text) where
-  pub no_first : slot (first_kind l) t ≡ none → item_here l t ≡ none
+  pub no_first : slot (first_kind l) t ≡ None → item_here l t ≡ None
   unfolding item_here
   no_first p = rw p
 
-  module _ (x : Read) (p : slot (first_kind l) t ≡ some x) where
-    pub no_second : slot (second_kind l) x.rest ≡ none → item_here l t ≡ none
+  module _ (x : Read) (p : slot (first_kind l) t ≡ Some x) where
+    pub no_second : slot (second_kind l) x.rest ≡ None → item_here l t ≡ None
     unfolding item_here
     no_second q = rw (p, q)
 
-    both_parts : (y : Read) → slot (second_kind l) x.rest ≡ some y → item_here l t ≡ some (record { item = record { first = x.value; second = y.value }; rest = y.rest })
+    both_parts : (y : Read) → slot (second_kind l) x.rest ≡ Some y → item_here l t ≡ Some (record { item = record { first = x.value; second = y.value }; rest = y.rest })
     unfolding item_here
     both_parts y q = rw (p, q)
 
-  module _ (a b : Words) (f e : ℕ) (p : slot (first_kind l) t ≡ some (record { value = value_by (first_kind l) file a; rest = drop f file }))
-      (q : slot (second_kind l) (drop f file) ≡ some (record { value = value_by (second_kind l) file b; rest = drop e file })) where
-    pub item_with_name : is_named l ≡ true → some (record { item = item_by l file b.low a.low; rest = drop e file }) ≡ item_here l t
+  module _ (a b : Words) (f e : ℕ) (p : slot (first_kind l) t ≡ Some (record { value = value_by (first_kind l) file a; rest = drop f file }))
+      (q : slot (second_kind l) (drop f file) ≡ Some (record { value = value_by (second_kind l) file b; rest = drop e file })) where
+    pub item_with_name : is_named l ≡ true → Some (record { item = item_by l file b.low a.low; rest = drop e file }) ≡ item_here l t
     item_with_name h =
         sym
         (both_parts _ p _ q
         ∙ (λ i.
-        some
+        Some
         (record {
           item = record { first = (first_low l file a ∙ ap (λ w. value_by (first_kind l) file (one_word w)) (sym (first_is l b.low a.low h))) i; second = second_low l file b i };
           rest = drop e file;
         })))
 
-    pub item_plain : is_named l ≡ false → some (record { item = item_by l file a.low 0; rest = drop e file }) ≡ item_here l t
+    pub item_plain : is_named l ≡ false → Some (record { item = item_by l file a.low 0; rest = drop e file }) ≡ item_here l t
     item_plain h =
         sym
         (both_parts _ p _ q
         ∙ (λ i.
-        some
+        Some
         (record {
           item = record { first = (first_low l file a ∙ ap (λ w. value_by (first_kind l) file (one_word w)) (sym (first_other l a.low 0 h))) i; second = second_any l file b (one_word a.low) h i };
           rest = drop e file;
@@ -111,18 +111,18 @@ abbrev pub items_from : Listed → Text → Option Items
 items_from l t = items_within (suc (length t)) l t
 
 abbrev pub prepend : List Item → Option Items → Option Items
-prepend list none = none
-prepend list (some r) = some (record { list = list ++ r.list; rest = r.rest })
+prepend list None = None
+prepend list (Some r) = Some (record { list = list ++ r.list; rest = r.rest })
 
 prepend_nothing : (o : Option Items) → o ≡ prepend [] o
-prepend_nothing none = refl
-prepend_nothing (some r) = refl
+prepend_nothing None = refl
+prepend_nothing (Some r) = refl
 
 prepend_twice : (p q : List Item) (o : Option Items) → prepend p (prepend q o) ≡ prepend (p ++ q) o
-prepend_twice p q none = refl
-prepend_twice p q (some r) = ap (λ l. some (record { list = l; rest = r.rest })) (sym (append_assoc p q r.list))
+prepend_twice p q None = refl
+prepend_twice p q (Some r) = ap (λ l. Some (record { list = l; rest = r.rest })) (sym (append_assoc p q r.list))
 
-pub item_shorter : (l : Listed) (t : Text) (x : ItemHere) → item_here l t ≡ some x → length x.rest < length t
+pub item_shorter : (l : Listed) (t : Text) (x : ItemHere) → item_here l t ≡ Some x → length x.rest < length t
 unfolding item_here
 item_shorter l t x e = every_some (shorter l t) e
   where
@@ -135,45 +135,45 @@ module _ (l : Listed) (t : Text) where
   -- as `items_within` has them
   abbrev by_fields : Option Items
   by_fields =
-      let_some (slot (first_kind l) t) none λ x.
-      let_some (slot (second_kind l) x.rest) none λ y.
-      let_some (items_within (length t) l y.rest) none λ r. some (with_item x.value y.value r)
+      let_some (slot (first_kind l) t) None λ x.
+      let_some (slot (second_kind l) x.rest) None λ y.
+      let_some (items_within (length t) l y.rest) None λ r. Some (with_item x.value y.value r)
 
-  pub items_ended : at_end t ≡ true → items_from l t ≡ some (no_items t)
+  pub items_ended : at_end t ≡ true → items_from l t ≡ Some (no_items t)
   unfolding items_within
-  items_ended h = λ i. elim (h i) [ true ↦ some (no_items t) | false ↦ by_fields ]
+  items_ended h = λ i. elim (h i) [ true ↦ Some (no_items t) | false ↦ by_fields ]
 
-  items_go_on : at_end t ≡ false → items_from l t ≡ (let_some (item_here l t) none λ x. let_some (items_within (length t) l x.rest) none λ r. some (with_item x.item.first x.item.second r))
+  items_go_on : at_end t ≡ false → items_from l t ≡ (let_some (item_here l t) None λ x. let_some (items_within (length t) l x.rest) None λ r. Some (with_item x.item.first x.item.second r))
   unfolding items_within item_here
-  items_go_on h = (λ i. elim (h i) [ true ↦ some (no_items t) | false ↦ by_fields ]) ∙ of (slot (first_kind l) t)
+  items_go_on h = (λ i. elim (h i) [ true ↦ Some (no_items t) | false ↦ by_fields ]) ∙ of (slot (first_kind l) t)
     where
       second : (x : Read) (o : Option Read)
-          → (let_some o none λ y. let_some (items_within (length t) l y.rest) none λ r. some (with_item x.value y.value r))
-          ≡ (let_some {A = ItemHere} (let_some o none λ y. some (record { item = record { first = x.value; second = y.value }; rest = y.rest })) none λ z. let_some (items_within (length t) l z.rest) none λ r. some (with_item z.item.first z.item.second r))
-      second x none = refl
-      second x (some y) = refl
+          → (let_some o None λ y. let_some (items_within (length t) l y.rest) None λ r. Some (with_item x.value y.value r))
+          ≡ (let_some {A = ItemHere} (let_some o None λ y. Some (record { item = record { first = x.value; second = y.value }; rest = y.rest })) None λ z. let_some (items_within (length t) l z.rest) None λ r. Some (with_item z.item.first z.item.second r))
+      second x None = refl
+      second x (Some y) = refl
 
       of : (o : Option Read)
-          → (let_some o none λ x. let_some (slot (second_kind l) x.rest) none λ y. let_some (items_within (length t) l y.rest) none λ r. some (with_item x.value y.value r))
-          ≡ (let_some {A = ItemHere} (let_some o none λ x. let_some (slot (second_kind l) x.rest) none λ y. some (record { item = record { first = x.value; second = y.value }; rest = y.rest })) none λ z. let_some (items_within (length t) l z.rest) none λ r. some (with_item z.item.first z.item.second r))
-      of none = refl
-      of (some x) = second x (slot (second_kind l) x.rest)
+          → (let_some o None λ x. let_some (slot (second_kind l) x.rest) None λ y. let_some (items_within (length t) l y.rest) None λ r. Some (with_item x.value y.value r))
+          ≡ (let_some {A = ItemHere} (let_some o None λ x. let_some (slot (second_kind l) x.rest) None λ y. Some (record { item = record { first = x.value; second = y.value }; rest = y.rest })) None λ z. let_some (items_within (length t) l z.rest) None λ r. Some (with_item z.item.first z.item.second r))
+      of None = refl
+      of (Some x) = second x (slot (second_kind l) x.rest)
 
-  pub items_lost : at_end t ≡ false → item_here l t ≡ none → items_from l t ≡ none
+  pub items_lost : at_end t ≡ false → item_here l t ≡ None → items_from l t ≡ None
   items_lost h p =
       items_go_on h
-      ∙ ap (λ o. let_some o none λ z. let_some (items_within (length t) l z.rest) none λ r. some (with_item z.item.first z.item.second r)) p
+      ∙ ap (λ o. let_some o None λ z. let_some (items_within (length t) l z.rest) None λ r. Some (with_item z.item.first z.item.second r)) p
 
-  pub items_step : (x : ItemHere) → at_end t ≡ false → item_here l t ≡ some x → items_from l t ≡ prepend (x.item ∷ []) (items_from l x.rest)
+  pub items_step : (x : ItemHere) → at_end t ≡ false → item_here l t ≡ Some x → items_from l t ≡ prepend (x.item ∷ []) (items_from l x.rest)
   items_step x h p =
       items_go_on h
-      ∙ ap (λ o. let_some o none λ z. let_some (items_within (length t) l z.rest) none λ r. some (with_item z.item.first z.item.second r)) p
+      ∙ ap (λ o. let_some o None λ z. let_some (items_within (length t) l z.rest) None λ r. Some (with_item z.item.first z.item.second r)) p
       ∙ of (items_within (length t) l x.rest)
       ∙ ap (prepend (x.item ∷ [])) enough
     where
-      of : (o : Option Items) → (let_some o none λ r. some (with_item x.item.first x.item.second r)) ≡ prepend (x.item ∷ []) o
-      of none = refl
-      of (some r) = refl
+      of : (o : Option Items) → (let_some o None λ r. Some (with_item x.item.first x.item.second r)) ≡ prepend (x.item ∷ []) o
+      of None = refl
+      of (Some r) = refl
 
       enough : items_within (length t) l x.rest ≡ items_from l x.rest
       enough =
@@ -229,23 +229,23 @@ module _ {file words : List ℕ} {l : Listed} {t : Text} {first e i : ℕ} (so_f
       record {
         list = so_far.list;
         is =
-            (λ d. elim (listed d) [ true ↦ elim (at_end t) [ true ↦ some (no_items t) | false ↦ none ] | false ↦ items_from l t ])
+            (λ d. elim (listed d) [ true ↦ elim (at_end t) [ true ↦ Some (no_items t) | false ↦ None ] | false ↦ items_from l t ])
             ∙ so_far.is
             ∙ ap (prepend so_far.list) (items_ended l (drop e file) h)
-            ∙ ap (λ k. some (record { list = k; rest = drop e file })) (append-nil so_far.list);
+            ∙ ap (λ k. Some (record { list = k; rest = drop e file })) (append-nil so_far.list);
         counts = so_far.counts;
         held = so_far.held;
       }
 
-  pub so_far_lost : at_end (drop e file) ≡ false → item_here l (drop e file) ≡ none → is_empty_list l ≡ false → items l t ≡ none
+  pub so_far_lost : at_end (drop e file) ≡ false → item_here l (drop e file) ≡ None → is_empty_list l ≡ false → items l t ≡ None
   unfolding items
   so_far_lost h p listed =
-      (λ d. elim (listed d) [ true ↦ elim (at_end t) [ true ↦ some (no_items t) | false ↦ none ] | false ↦ items_from l t ])
+      (λ d. elim (listed d) [ true ↦ elim (at_end t) [ true ↦ Some (no_items t) | false ↦ None ] | false ↦ items_from l t ])
       ∙ so_far.is
       ∙ ap (prepend so_far.list) (items_lost l (drop e file) h p)
 
   module _ (value name end : ℕ) (words' : List ℕ) (more : at_end (drop e file) ≡ false)
-      (read : item_here l (drop e file) ≡ some (record { item = item_by l file value name; rest = drop end file }))
+      (read : item_here l (drop e file) ≡ Some (record { item = item_by l file value name; rest = drop end file }))
       (put : ItemPut words (first + i) value name words') where
     rows_same : items_by l file words' first i ≡ items_by l file words first i
     unfolding items_by
@@ -292,17 +292,17 @@ module _ (file words : List ℕ) (l : Listed) (at first : ℕ) (listed : is_empt
         list = [];
         is =
             (λ d. elim (listed d) [
-              | true ↦ elim (h d) [ true ↦ some (no_items (drop at file)) | false ↦ none ]
+              | true ↦ elim (h d) [ true ↦ Some (no_items (drop at file)) | false ↦ None ]
               | false ↦ items_from l (drop at file)
             ]);
         counts = refl;
         held = λ short. refl;
       }
 
-  pub some_lost : at_end (drop at file) ≡ false → items l (drop at file) ≡ none
+  pub some_lost : at_end (drop at file) ≡ false → items l (drop at file) ≡ None
   unfolding items
   some_lost h =
       λ d. elim (listed d) [
-        | true ↦ elim (h d) [ true ↦ some (no_items (drop at file)) | false ↦ none ]
+        | true ↦ elim (h d) [ true ↦ Some (no_items (drop at file)) | false ↦ None ]
         | false ↦ items_from l (drop at file)
       ]

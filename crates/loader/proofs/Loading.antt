@@ -3,7 +3,7 @@ use Prim.Native.Nat.{ℕ, ◌+◌, ◌≤◌, ◌<◌}
 use mathlib.Core.Path.{◌≡◌, refl, sym, ap, subst, ◌∙◌}
 use mathlib.Core.List.{List, ◌++◌}
 use mathlib.Core.Bool.{Bool, true, false, not}
-use mathlib.Core.Option.{Option, none, some}
+use Rattle.std.specs.Prelude.{Option, None, Some}
 use native.Mathlib.Omega.{arith}
 use lib.ListN.{length, take, drop, replicate, length-take, length-drop, length-append, length-replicate}
 use lib.Seq.{take-append_seam, drop-append_seam}
@@ -22,12 +22,12 @@ use Rattle.loader.specs.Load.{loaded_is, ItemsCounted, Cleared, WordsPut, Filled
 use Rattle.loader.specs.declared.Loaded.{Loaded}
 
 -- a first line of the format has eight bytes
-pub version_long : (file : Text) (version : ℕ) → version_of file ≡ some version → 8 ≤ length file
+pub version_long : (file : Text) (version : ℕ) → version_of file ≡ Some version → 8 ≤ length file
 unfolding version_of place_in first is_keyword
 version_long file version e = of (is_keyword {A = ℕ} (take first_line_length file) (keyword "index\t1\n" 1)) refl e
   where
     of : (b : Bool) → is_keyword {A = ℕ} (take first_line_length file) (keyword "index\t1\n" 1) ≡ b
-        → ◌≡◌ {A = Option ℕ} (let_some (if b then some 0 else none) none (λ n. some (word_at first_lines 0 n))) (some version) → 8 ≤ length file
+        → ◌≡◌ {A = Option ℕ} (let_some (if b then Some 0 else None) None (λ n. Some (word_at first_lines 0 n))) (Some version) → 8 ≤ length file
     of true is h = omega (arith, ap length (eq_numbers_sound (take first_line_length file) (bytes "index\t1\n") is), length-take first_line_length file)
     of false is h = absurd (none≢some h)
 
@@ -37,25 +37,25 @@ module _ (file : Text) where
   too_long h =
       sym (λ i. elim (lt-ltb max_bytes (length file) h i) [
         | true ↦ refused 3 0
-        | false ↦ elim (version_of file) [ none ↦ refused 2 1 | some version ↦ load_lines version (drop first_line_length file) ]
+        | false ↦ elim (version_of file) [ None ↦ refused 2 1 | Some version ↦ load_lines version (drop first_line_length file) ]
       ])
 
   module _ (short : length file ≤ max_bytes) where
-    by_version : load file ≡ elim (version_of file) [ none ↦ refused 2 1 | some version ↦ load_lines version (drop first_line_length file) ]
+    by_version : load file ≡ elim (version_of file) [ None ↦ refused 2 1 | Some version ↦ load_lines version (drop first_line_length file) ]
     unfolding load
     by_version =
         λ i. elim (le-ltb max_bytes (length file) short i) [
           | true ↦ refused 3 0
-          | false ↦ elim (version_of file) [ none ↦ refused 2 1 | some version ↦ load_lines version (drop first_line_length file) ]
+          | false ↦ elim (version_of file) [ None ↦ refused 2 1 | Some version ↦ load_lines version (drop first_line_length file) ]
         ]
 
-    pub no_version : version_of file ≡ none → refused 2 1 ≡ load file
-    no_version e = sym (by_version ∙ (λ i. elim (e i) [ none ↦ refused 2 1 | some version ↦ load_lines version (drop first_line_length file) ]))
+    pub no_version : version_of file ≡ None → refused 2 1 ≡ load file
+    no_version e = sym (by_version ∙ (λ i. elim (e i) [ None ↦ refused 2 1 | Some version ↦ load_lines version (drop first_line_length file) ]))
 
-    module _ (version : ℕ) (is_version : version_of file ≡ some version) where
+    module _ (version : ℕ) (is_version : version_of file ≡ Some version) where
       by_lines : load file ≡ after_first (first_pass version (drop first_line_length file))
       unfolding load_lines
-      by_lines = by_version ∙ (λ i. elim (is_version i) [ none ↦ refused 2 1 | some version ↦ load_lines version (drop first_line_length file) ])
+      by_lines = by_version ∙ (λ i. elim (is_version i) [ None ↦ refused 2 1 | Some version ↦ load_lines version (drop first_line_length file) ])
 
       pub lines_wrong : (number line : ℕ) → first_pass version (drop first_line_length file) ≡ wrong number line → refused number line ≡ load file
       lines_wrong number line e = sym (by_lines ∙ ap after_first e)
@@ -64,20 +64,20 @@ module _ (file : Text) where
         by_links : load file ≡ (let_some (link_fault index) (accepted index) λ line. refused 5 line)
         by_links = by_lines ∙ ap after_first is_read
 
-        pub links_fault : (line : ℕ) → some line ≡ link_fault index → refused 5 line ≡ load file
+        pub links_fault : (line : ℕ) → Some line ≡ link_fault index → refused 5 line ≡ load file
         links_fault line e = sym (by_links ∙ ap (λ o. let_some o (accepted index) λ line. refused 5 line) (sym e))
 
-        pub links_lead : none ≡ link_fault index → accepted index ≡ load file
+        pub links_lead : None ≡ link_fault index → accepted index ≡ load file
         links_lead e = sym (by_links ∙ ap (λ o. let_some o (accepted index) λ line. refused 5 line) (sym e))
 
 -- a line with 5 is one of the lines behind the first
-pub fault_small : (index : Index) (line : ℕ) → some line ≡ link_fault index → line < 2 + length (linked_lines index)
+pub fault_small : (index : Index) (line : ℕ) → Some line ≡ link_fault index → line < 2 + length (linked_lines index)
 unfolding link_fault
 fault_small index line e = of (first not (linked_lines index)) refl e
   where
-    of : (o : Option ℕ) → first not (linked_lines index) ≡ o → some line ≡ (let_some o none λ n. some (2 + n)) → line < 2 + length (linked_lines index)
-    of none is h = absurd (none≢some (sym h))
-    of (some k) is h = let below = first_below (linked_lines index) k is in let same : line ≡ 2 + k = some-injective h in omega (arith, below, same)
+    of : (o : Option ℕ) → first not (linked_lines index) ≡ o → Some line ≡ (let_some o None λ n. Some (2 + n)) → line < 2 + length (linked_lines index)
+    of None is h = absurd (none≢some (sym h))
+    of (Some k) is h = let below = first_below (linked_lines index) k is in let same : line ≡ 2 + k = some-injective h in omega (arith, below, same)
 
 -- ------------------------------------------------------------------ the first words of a buffer
 

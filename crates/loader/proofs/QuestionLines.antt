@@ -2,7 +2,7 @@
 use Prim.Native.Nat.{ℕ}
 use mathlib.Core.Path.{◌≡◌, sym, ap}
 use mathlib.Core.List.{List, [], ◌∷◌}
-use mathlib.Core.Option.{Option, none, some}
+use Rattle.std.specs.Prelude.{Option, None, Some}
 use native.Mathlib.Omega.{arith}
 use lib.ListN.{drop}
 use Rattle.model.specs.Common.{Text, let_some}
@@ -28,23 +28,23 @@ use Rattle.loader.proofs.Leaving.{left_then, behind_left, put_left, question_apa
 use Rattle.loader.proofs.Decoding.{question_row_is, question_none, question_other}
 
 module _ (file t : Text) where
-  pub question_no_word : word_here t ≡ none → line_from LineWord.Q t ≡ none
+  pub question_no_word : word_here t ≡ None → line_from LineWord.Q t ≡ None
   unfolding line_from question_line
   question_no_word p = rw p
 
-  module _ (f : Text) (q : ℕ) (here : word_here t ≡ some (record { word = f; rest = drop q file })) (w : QuestionWord) (is_IsWord : w ≡ question_word_of f) where
-    pub question_no_tail : tails.tail (question_shape w) (drop q file) ≡ none → line_from LineWord.Q t ≡ none
+  module _ (f : Text) (q : ℕ) (here : word_here t ≡ Some (record { word = f; rest = drop q file })) (w : QuestionWord) (is_IsWord : w ≡ question_word_of f) where
+    pub question_no_tail : tails.tail (question_shape w) (drop q file) ≡ None → line_from LineWord.Q t ≡ None
     unfolding line_from question_line
     question_no_tail p = rw (here, sym is_IsWord, p)
 
-    question_read : (x : tails.Tail) (o : Option Question) → tails.tail (question_shape w) (drop q file) ≡ some x → question_as w x ≡ o
-        → line_from LineWord.Q t ≡ (let_some o none λ v. some (record { entry = a_question v; rest = x.rest }))
+    question_read : (x : tails.Tail) (o : Option Question) → tails.tail (question_shape w) (drop q file) ≡ Some x → question_as w x ≡ o
+        → line_from LineWord.Q t ≡ (let_some o None λ v. Some (record { entry = a_question v; rest = x.rest }))
     unfolding line_from question_line
     question_read x o p e = rw (here, sym is_IsWord, p, e)
 
     module _ {words' : List ℕ} (n : Counts) (x : Tail) (h : TailHeld file words' (question_shape w) (drop q file) n.items x) where
-      pub question_no_kind : question_number w ≡ 4 → line_from LineWord.Q t ≡ none
-      question_no_kind e = question_read (tail_by file (question_shape w) x h.list) none h.is (question_other w (tail_by file (question_shape w) x h.list) e)
+      pub question_no_kind : question_number w ≡ 4 → line_from LineWord.Q t ≡ None
+      question_no_kind e = question_read (tail_by file (question_shape w) x h.list) None h.is (question_other w (tail_by file (question_shape w) x h.list) e)
 
       module _ {words words'' : List ℕ} (fine : Fine file words n) (room : HasRoom LineWord.Q n) (known : question_number w ≡ 4 → ⊥) (behind : Behind n.items words words')
           (put : Put words' (question_place n.questions) (question_number w ∷ (parts x.a).low ∷ (parts x.b).low ∷ (parts x.c).low ∷ []) words'') where
@@ -59,7 +59,7 @@ module _ (file t : Text) where
               line =
                   record {
                     entry = a_question value;
-                    is = question_read (tail_by file (question_shape w) x h.list) (some value) h.is (question_row_is file words' (drop q file) n.items x fine.items w h known);
+                    is = question_read (tail_by file (question_shape w) x h.list) (Some value) h.is (question_row_is file words' (drop q file) n.items x fine.items w h known);
                     counts = sym (question_none file words' (drop q file) n.items x fine.items w h);
                     held = λ few. ap a_question (sym (question_put n.questions (question_number w) (parts x.a).low (parts x.b).low (parts x.c).low put));
                     stays = λ few words''' left.

@@ -3,7 +3,7 @@ use Prim.Native.Nat.{ℕ, ◌+◌}
 use mathlib.Core.Path.{◌≡◌, refl, sym, ap, ◌∙◌}
 use mathlib.Core.List.{List, [], ◌∷◌}
 use mathlib.Core.Bool.{true, false}
-use mathlib.Core.Option.{Option, none, some}
+use Rattle.std.specs.Prelude.{Option, None, Some}
 use native.Mathlib.Omega.{arith}
 use lib.ListN.{drop}
 use Rattle.model.specs.Common.{Text, let_some}
@@ -33,28 +33,28 @@ use Rattle.loader.proofs.Decoding.{scope_row_is, scope_lost}
 module _ (file t : Text) where
   -- ---------------------------------------------------------------- S
 
-  pub scope_no_parent : slot Kind.MaybeNumber t ≡ none → line_from LineWord.S t ≡ none
+  pub scope_no_parent : slot Kind.MaybeNumber t ≡ None → line_from LineWord.S t ≡ None
   unfolding line_from scope_line
   scope_no_parent p = rw p
 
-  module _ (parent e : ℕ) (up : slot Kind.MaybeNumber t ≡ some (record { value = linked (link_by parent); rest = drop e file })) where
-    pub scope_no_word : word_here (drop e file) ≡ none → line_from LineWord.S t ≡ none
+  module _ (parent e : ℕ) (up : slot Kind.MaybeNumber t ≡ Some (record { value = linked (link_by parent); rest = drop e file })) where
+    pub scope_no_word : word_here (drop e file) ≡ None → line_from LineWord.S t ≡ None
     unfolding line_from scope_line
     scope_no_word p = rw (up, p)
 
-    module _ (f : Text) (q : ℕ) (here : word_here (drop e file) ≡ some (record { word = f; rest = drop q file })) (w : ScopeWord) (is_IsWord : w ≡ scope_word_of f) where
-      pub scope_no_tail : tails.tail bare (drop q file) ≡ none → line_from LineWord.S t ≡ none
+    module _ (f : Text) (q : ℕ) (here : word_here (drop e file) ≡ Some (record { word = f; rest = drop q file })) (w : ScopeWord) (is_IsWord : w ≡ scope_word_of f) where
+      pub scope_no_tail : tails.tail bare (drop q file) ≡ None → line_from LineWord.S t ≡ None
       unfolding line_from scope_line
       scope_no_tail p = rw (up, here, p)
 
-      scope_read : (x : tails.Tail) (o : Option Scope) → tails.tail bare (drop q file) ≡ some x → scope_as (maybe_num (linked (link_by parent))) w ≡ o
-          → line_from LineWord.S t ≡ (let_some o none λ v. some (record { entry = a_scope v; rest = x.rest }))
+      scope_read : (x : tails.Tail) (o : Option Scope) → tails.tail bare (drop q file) ≡ Some x → scope_as (maybe_num (linked (link_by parent))) w ≡ o
+          → line_from LineWord.S t ≡ (let_some o None λ v. Some (record { entry = a_scope v; rest = x.rest }))
       unfolding line_from scope_line
       scope_read x o p r = rw (up, here, sym is_IsWord, p, r)
 
       module _ {words' : List ℕ} (n : Counts) (x : Tail) (h : TailHeld file words' bare (drop q file) n.items x) where
-        pub scope_no_fit : scope_fits parent w ≡ false → line_from LineWord.S t ≡ none
-        scope_no_fit r = scope_read (tail_by file bare x h.list) none h.is (scope_lost w parent r)
+        pub scope_no_fit : scope_fits parent w ≡ false → line_from LineWord.S t ≡ None
+        scope_no_fit r = scope_read (tail_by file bare x h.list) None h.is (scope_lost w parent r)
 
         module _ {words words'' : List ℕ} (fine : Fine file words n) (room : HasRoom LineWord.S n) (fits : scope_fits parent w ≡ true) (behind : Behind n.items words words')
             (put : Put words' (scope_place n.scopes) (parent ∷ scope_number w ∷ []) words'') where
@@ -66,7 +66,7 @@ module _ (file t : Text) where
                 line =
                     record {
                       entry = a_scope (record { parent = link_by parent; kind = scope_kind_by (scope_number w) });
-                      is = scope_read (tail_by file bare x h.list) (some (record { parent = link_by parent; kind = scope_kind_by (scope_number w) })) h.is (scope_row_is w parent fits);
+                      is = scope_read (tail_by file bare x h.list) (Some (record { parent = link_by parent; kind = scope_kind_by (scope_number w) })) h.is (scope_row_is w parent fits);
                       counts = sym (h.none refl);
                       held = λ few. ap a_scope (sym (scope_put n.scopes parent (scope_number w) put));
                       stays = λ few words''' left. ap a_scope (scope_row_same words'' words''' n.scopes (λ i a b. left.scopes i (omega arith) (omega arith)));
@@ -76,7 +76,7 @@ module _ (file t : Text) where
 
   -- ---------------------------------------------------------------- M
 
-  pub module_no_tail : tails.tail module_shape t ≡ none → line_from LineWord.M t ≡ none
+  pub module_no_tail : tails.tail module_shape t ≡ None → line_from LineWord.M t ≡ None
   unfolding line_from module_line
   module_no_tail p = rw p
 
@@ -113,8 +113,8 @@ module _ (file t : Text) where
               };
         }
       where
-        read : tails.tail module_shape t ≡ some (tail_by file module_shape x h.list)
+        read : tails.tail module_shape t ≡ Some (tail_by file module_shape x h.list)
         read = h.is
 
-        is : line_from LineWord.M t ≡ some (record { entry = a_module (name_by file (parts x.a).low); rest = drop x.end file })
+        is : line_from LineWord.M t ≡ Some (record { entry = a_module (name_by file (parts x.a).low); rest = drop x.end file })
         is = rw read

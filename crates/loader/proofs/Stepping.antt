@@ -3,7 +3,7 @@ use Prim.Native.Nat.{ℕ, ◌+◌, ◌-◌, ◌≤◌, ◌<◌}
 use mathlib.Core.Path.{◌≡◌, refl, sym, ap, ap₂, ◌∙◌}
 use mathlib.Core.List.{List}
 use mathlib.Core.Bool.{Bool, true, false, not, ◌&&◌}
-use mathlib.Core.Option.{none}
+use Rattle.std.specs.Prelude.{None}
 use native.Mathlib.Omega.{arith}
 use lib.Dec.{eqb, ltb}
 use lib.ListN.{length, take, drop, get_or, drop_of_length-le}
@@ -51,7 +51,7 @@ module _ (version : ℕ) {file words : List ℕ} (n : Counts) (good : Good file 
     step_judged =
         starts ∙ (λ i. elim ((room_is version n good w ∙ free) i) [ true ↦ judged w now_seen (line_from w (drop p file)) | false ↦ refuse 3 ])
 
-    pub step_wrong : line_from w (drop p file) ≡ none → step_on now_seen (drop at file) ≡ refuse 4
+    pub step_wrong : line_from w (drop p file) ≡ None → step_on now_seen (drop at file) ≡ refuse 4
     step_wrong e = step_judged ∙ ap (judged w now_seen) e
 
     module _ {words' : List ℕ} (count end : ℕ) (room : HasRoom w n) (left : Left n words words') (line : LineHeld w file words' n (drop p file) count end) where

@@ -3,7 +3,7 @@ use Prim.Native.Nat.{ℕ, suc, ◌+◌, ◌*◌, ◌≤◌}
 use mathlib.Core.Path.{◌≡◌, sym, ap, subst, ◌∙◌}
 use mathlib.Core.List.{List}
 use mathlib.Core.Bool.{Bool, true, false}
-use mathlib.Core.Option.{Option, none, some}
+use Rattle.std.specs.Prelude.{Option, None, Some}
 use native.Mathlib.Omega.{arith}
 use lib.ListN.{length, drop}
 use Rattle.model.specs.Common.{Text}
@@ -26,29 +26,29 @@ use Rattle.loader.specs.declared.rows.TailRead.{TailRead}
 -- what the definition reads where the code has read three fields, and where it has not
 module _ (s t : Text) (ka kb kc : Kind) (r : ThreeWords) (q : three_words_is ka kb kc s r ≡ tails.three ka kb kc t) where
   pub three_found : (a b c e : ℕ) → r ≡ ThreeWords.Are a b c e
-      → tails.three ka kb kc t ≡ some (record { a = value_by ka s (parts a); b = value_by kb s (parts b); c = value_by kc s (parts c); rest = drop e s })
+      → tails.three ka kb kc t ≡ Some (record { a = value_by ka s (parts a); b = value_by kb s (parts b); c = value_by kc s (parts c); rest = drop e s })
   three_found a b c e h = sym q ∙ ap (three_words_is ka kb kc s) h
 
-  pub three_lost : r ≡ ThreeWords.Wrong → tails.three ka kb kc t ≡ none
+  pub three_lost : r ≡ ThreeWords.Wrong → tails.three ka kb kc t ≡ None
   three_lost h = sym q ∙ ap (three_words_is ka kb kc s) h
 
 -- no list has no items
-empty_list : (l : Listed) (t : Text) (r : tails.Items) → tails.is_empty_list l ≡ true → tails.items l t ≡ some r → length r.list ≡ 0
+empty_list : (l : Listed) (t : Text) (r : tails.Items) → tails.is_empty_list l ≡ true → tails.items l t ≡ Some r → length r.list ≡ 0
 unfolding tails.items
 empty_list l t r empty e =
-    of (tails.at_end t) (sym (λ i. elim (empty i) [ true ↦ elim (tails.at_end t) [ true ↦ some (tails.no_items t) | false ↦ none ] | false ↦ tails.items_within (suc (length t)) l t ]) ∙ e)
+    of (tails.at_end t) (sym (λ i. elim (empty i) [ true ↦ elim (tails.at_end t) [ true ↦ Some (tails.no_items t) | false ↦ None ] | false ↦ tails.items_within (suc (length t)) l t ]) ∙ e)
   where
-    of : (b : Bool) → ◌≡◌ {A = Option tails.Items} (elim b [ true ↦ some (tails.no_items t) | false ↦ none ]) (some r) → length r.list ≡ 0
+    of : (b : Bool) → ◌≡◌ {A = Option tails.Items} (elim b [ true ↦ Some (tails.no_items t) | false ↦ None ]) (Some r) → length r.list ≡ 0
     of true h = ap (λ (x : tails.Items). length x.list) (sym (some-injective h))
     of false h = absurd (none≢some h)
 
 module _ (s : Shape) (file t : Text) where
-  pub tail_no_three : tails.three s.a s.b s.c t ≡ none → tails.tail s t ≡ none
+  pub tail_no_three : tails.three s.a s.b s.c t ≡ None → tails.tail s t ≡ None
   unfolding tails.tail
   tail_no_three p = rw p
 
-  module _ (a b c e : ℕ) (p : tails.three s.a s.b s.c t ≡ some (record { a = value_by s.a file (parts a); b = value_by s.b file (parts b); c = value_by s.c file (parts c); rest = drop e file })) where
-    pub tail_no_items : tails.items s.list (drop e file) ≡ none → tails.tail s t ≡ none
+  module _ (a b c e : ℕ) (p : tails.three s.a s.b s.c t ≡ Some (record { a = value_by s.a file (parts a); b = value_by s.b file (parts b); c = value_by s.c file (parts c); rest = drop e file })) where
+    pub tail_no_items : tails.items s.list (drop e file) ≡ None → tails.tail s t ≡ None
     unfolding tails.tail
     tail_no_items q = rw (p, q)
 
@@ -60,15 +60,15 @@ module _ (s : Shape) (file t : Text) where
             list = h.list;
             is = whole;
             counts = h.counts;
-            none = λ empty. sym h.counts ∙ empty_list s.list (drop e file) _ empty h.is;
+            None = λ empty. sym h.counts ∙ empty_list s.list (drop e file) _ empty h.is;
             held = h.held;
             packed = is_list;
           }
         where
-          items_read : tails.items s.list (drop e file) ≡ some (record { list = h.list; rest = drop end file })
+          items_read : tails.items s.list (drop e file) ≡ Some (record { list = h.list; rest = drop end file })
           items_read = h.is
 
-          whole : tails.tail s t ≡ some (tail_by file s (record { a = a; b = b; c = c; list = list; count = count; end = end }) h.list)
+          whole : tails.tail s t ≡ Some (tail_by file s (record { a = a; b = b; c = c; list = list; count = count; end = end }) h.list)
           whole = rw (p, items_read)
 
 -- while the items are left
@@ -79,7 +79,7 @@ tail_kept {file} {words} {words'} {s} {t} {first} {x} left h =
       list = h.list;
       is = h.is;
       counts = h.counts;
-      none = h.none;
+      None = h.none;
       held = λ few.
           h.held few
           ∙ each_same (item_row s.list file words) (item_row s.list file words') first x.count
@@ -92,7 +92,7 @@ module _ (file words : List ℕ) (s : Shape) (t : Text) (first : ℕ) {r : TailR
   pub tail_of : (x : Tail) → r ≡ TailRead.Is x → TailHeld file words s t first x
   tail_of x e = subst (TailIs file words s t first) e h
 
-  pub tail_none : r ≡ TailRead.Wrong → tails.tail s t ≡ none
+  pub tail_none : r ≡ TailRead.Wrong → tails.tail s t ≡ None
   tail_none e = subst (TailIs file words s t first) e h
 
 pub tail_put_as : {file words : List ℕ} {s s' : Shape} {t : Text} {first : ℕ} {words' : List ℕ} {r : TailRead} → s ≡ s' → TailPut file words s t first words' r → TailPut file words s' t first words' r

@@ -2,7 +2,7 @@
 use Prim.Native.Nat.{ℕ, ◌+◌, ◌≤◌}
 use mathlib.Core.Path.{◌≡◌, sym, ap, subst, ◌∙◌}
 use mathlib.Core.List.{List, [], ◌∷◌}
-use mathlib.Core.Option.{Option, none, some}
+use Rattle.std.specs.Prelude.{Option, None, Some}
 use native.Mathlib.Omega.{arith}
 use lib.ListN.{drop}
 use Rattle.model.specs.Common.{Text, let_some}
@@ -30,23 +30,23 @@ use Rattle.loader.proofs.Leaving.{left_then, behind_left, put_left, type_apart}
 use Rattle.loader.proofs.Decoding.{RowOf, type_row, type_listed, type_other}
 
 module _ (file t : Text) where
-  pub type_no_word : word_here t ≡ none → line_from LineWord.T t ≡ none
+  pub type_no_word : word_here t ≡ None → line_from LineWord.T t ≡ None
   unfolding line_from type_line
   type_no_word p = rw p
 
-  module _ (f : Text) (q : ℕ) (here : word_here t ≡ some (record { word = f; rest = drop q file })) (w : TypeWord) (is_IsWord : w ≡ type_word_of f) where
-    pub type_no_tail : tails.tail (type_shape w) (drop q file) ≡ none → line_from LineWord.T t ≡ none
+  module _ (f : Text) (q : ℕ) (here : word_here t ≡ Some (record { word = f; rest = drop q file })) (w : TypeWord) (is_IsWord : w ≡ type_word_of f) where
+    pub type_no_tail : tails.tail (type_shape w) (drop q file) ≡ None → line_from LineWord.T t ≡ None
     unfolding line_from type_line
     type_no_tail p = rw (here, sym is_IsWord, p)
 
-    type_read : (x : tails.Tail) (o : Option TypeExpr) → tails.tail (type_shape w) (drop q file) ≡ some x → type_as w x ≡ o
-        → line_from LineWord.T t ≡ (let_some o none λ v. some (record { entry = a_type v; rest = x.rest }))
+    type_read : (x : tails.Tail) (o : Option TypeExpr) → tails.tail (type_shape w) (drop q file) ≡ Some x → type_as w x ≡ o
+        → line_from LineWord.T t ≡ (let_some o None λ v. Some (record { entry = a_type v; rest = x.rest }))
     unfolding line_from type_line
     type_read x o p e = rw (here, sym is_IsWord, p, e)
 
     module _ {words' : List ℕ} (n : Counts) (x : Tail) (h : TailHeld file words' (type_shape w) (drop q file) n.items x) where
-      pub type_no_kind : type_number w ≡ 7 → line_from LineWord.T t ≡ none
-      type_no_kind e = type_read (tail_by file (type_shape w) x h.list) none h.is (type_other w (tail_by file (type_shape w) x h.list) e)
+      pub type_no_kind : type_number w ≡ 7 → line_from LineWord.T t ≡ None
+      type_no_kind e = type_read (tail_by file (type_shape w) x h.list) None h.is (type_other w (tail_by file (type_shape w) x h.list) e)
 
       module _ {words words'' : List ℕ} (fine : Fine file words n) (room : HasRoom LineWord.T n) (known : type_number w ≡ 7 → ⊥) (behind : Behind n.items words words')
           (put : Put words' (type_expr_place n.types) (type_number w ∷ (parts x.a).low ∷ (parts x.b).low ∷ last_word (type_shape w) x ∷ []) words'') where
@@ -72,7 +72,7 @@ module _ (file t : Text) where
               line =
                   record {
                     entry = a_type value.value;
-                    is = type_read (tail_by file (type_shape w) x kept.list) (some value.value) kept.is value.is;
+                    is = type_read (tail_by file (type_shape w) x kept.list) (Some value.value) kept.is value.is;
                     counts = value.counts;
                     held = λ few. ap a_type (value.held few ∙ sym row_is);
                     stays = λ few words''' left.

@@ -1,6 +1,6 @@
 -- The list at a line's end, and its items in the words. Assumes nothing.
 use Rattle.std.specs.Prelude.{ℕ, ◌+◌, ◌≤◌, ◌<◌, ◌≡◌, List, Bool, true, false, length, drop}
-use Rattle.std.proofs.Math.Option.{Option, none, some}
+use Rattle.std.specs.Prelude.{Option, None, Some}
 use Rattle.model.specs.Common.{Text, let_some}
 use Rattle.model.specs.Limits.{max_items}
 use Rattle.format.specs.declared.Listed.{Listed}
@@ -20,8 +20,8 @@ pub record ItemHere : Type 0 where
 -- the item that stands here, as `items_within` reads it
 unfoldable pub item_here : Listed → Text → Option ItemHere
 item_here l t =
-    let_some (slot (first_kind l) t) none λ x.
-    let_some (slot (second_kind l) x.rest) none λ y. some (record { item = record { first = x.value; second = y.value }; rest = y.rest })
+    let_some (slot (first_kind l) t) None λ x.
+    let_some (slot (second_kind l) x.rest) None λ y. Some (record { item = record { first = x.value; second = y.value }; rest = y.rest })
 
 -- its first part is a name
 abbrev pub is_named : Listed → Bool
@@ -45,8 +45,8 @@ item_by l file value name =
     record { first = value_by (first_kind l) file (one_word (first_word l value name)); second = value_by (second_kind l) file (one_word value) }
 
 abbrev pub item_words_is : Listed → Text → ItemWords → Option ItemHere
-item_words_is l file (ItemWords.Are value name e) = some (record { item = item_by l file value name; rest = drop e file })
-item_words_is l file ItemWords.Wrong = none
+item_words_is l file (ItemWords.Are value name e) = Some (record { item = item_by l file value name; rest = drop e file })
+item_words_is l file ItemWords.Wrong = None
 
 -- ------------------------------------------------------------------ the items of a list
 
@@ -70,13 +70,13 @@ pub record ItemPut (words : List ℕ) (i value name : ℕ) (words' : List ℕ) :
 -- a list that was read: its items stand in the rows from `first` on, if there is room for all
 pub record ItemsHeld (file words : List ℕ) (l : Listed) (t : Text) (first count end : ℕ) : Type 0 where
   pub list : List Item
-  pub is : items l t ≡ some (record { list = list; rest = drop end file })
+  pub is : items l t ≡ Some (record { list = list; rest = drop end file })
   pub counts : length list ≡ count
   pub held : first + count ≤ max_items → list ≡ items_by l file words first count
 
 abbrev pub ItemsAre : List ℕ → List ℕ → Listed → Text → ℕ → ItemsRead → Type 0
 ItemsAre file words l t first (ItemsRead.Are count end) = ItemsHeld file words l t first count end
-ItemsAre file words l t first ItemsRead.Wrong = items l t ≡ none
+ItemsAre file words l t first ItemsRead.Wrong = items l t ≡ None
 
 pub record ItemsPut (file words : List ℕ) (l : Listed) (t : Text) (first : ℕ) (words' : List ℕ) (r : ItemsRead) : Type 0 where
   pub behind : Behind first words words'

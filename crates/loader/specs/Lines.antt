@@ -1,6 +1,6 @@
 -- A line that was read and written as the next row of its kind. Assumes nothing.
 use Rattle.std.specs.Prelude.{ℕ, ◌+◌, ◌*◌, ◌≤◌, ◌≡◌, List, Bool, true, false, not, eqb, length, drop}
-use Rattle.std.proofs.Math.Option.{Option, none, some}
+use Rattle.std.specs.Prelude.{Option, None, Some}
 use Rattle.model.specs.Common.{Text, let_some}
 use Rattle.model.specs.Records.{Origin}
 use Rattle.model.specs.Limits.{max_items}
@@ -37,15 +37,15 @@ tail_by file shape x list =
 
 pub record TailHeld (file words : List ℕ) (shape : Shape) (t : Text) (first : ℕ) (x : Tail) : Type 0 where
   pub list : List tails.Item
-  pub is : tails.tail shape t ≡ some (tail_by file shape x list)
+  pub is : tails.tail shape t ≡ Some (tail_by file shape x list)
   pub counts : length list ≡ x.count
-  pub none : tails.is_empty_list shape.list ≡ true → x.count ≡ 0
+  pub None : tails.is_empty_list shape.list ≡ true → x.count ≡ 0
   pub held : first + x.count ≤ max_items → list ≡ items_by shape.list file words first x.count
   pub packed : x.count ≤ max_items → x.list ≡ first + 65536 * x.count
 
 abbrev pub TailIs : List ℕ → List ℕ → Shape → Text → ℕ → TailRead → Type 0
 TailIs file words shape t first (TailRead.Is x) = TailHeld file words shape t first x
-TailIs file words shape t first TailRead.Wrong = tails.tail shape t ≡ none
+TailIs file words shape t first TailRead.Wrong = tails.tail shape t ≡ None
 
 pub record TailPut (file words : List ℕ) (shape : Shape) (t : Text) (first : ℕ) (words' : List ℕ) (r : TailRead) : Type 0 where
   pub behind : Behind first words words'
@@ -93,24 +93,24 @@ pub record OriginHere : Type 0 where
 
 unfoldable pub origin_here : Text → Option OriginHere
 origin_here t =
-    let_some (word_here t) none λ v.
-    let_some (tails.three (origin_shape (origin_word_of v.word)).a (origin_shape (origin_word_of v.word)).b Kind.Nothing v.rest) none λ o.
-    let_some (origin_as (origin_word_of v.word) o) none λ origin. some (record { origin = origin; rest = o.rest })
+    let_some (word_here t) None λ v.
+    let_some (tails.three (origin_shape (origin_word_of v.word)).a (origin_shape (origin_word_of v.word)).b Kind.Nothing v.rest) None λ o.
+    let_some (origin_as (origin_word_of v.word) o) None λ origin. Some (record { origin = origin; rest = o.rest })
 
 pub record OriginHeld (file t : Text) (kind link value end : ℕ) : Type 0 where
-  pub is : origin_here t ≡ some (record { origin = origin_by file kind link value; rest = drop end file })
+  pub is : origin_here t ≡ Some (record { origin = origin_by file kind link value; rest = drop end file })
   pub small : kind ≤ 5
 
 abbrev pub OriginIs : Text → Text → OriginRead → Type 0
 OriginIs file t (OriginRead.Is kind link value end) = OriginHeld file t kind link value end
-OriginIs file t OriginRead.Wrong = origin_here t ≡ none
+OriginIs file t OriginRead.Wrong = origin_here t ≡ None
 
 -- ------------------------------------------------------------------ a line
 
 -- its record stands in the next row of its kind, if there is room for its items, and stays there while that row and the items are left
 pub record LineHeld (w : LineWord) (file words : List ℕ) (n : Counts) (t : Text) (count end : ℕ) : Type 0 where
   pub entry : Entry
-  pub is : line_from w t ≡ some (record { entry = entry; rest = drop end file })
+  pub is : line_from w t ≡ Some (record { entry = entry; rest = drop end file })
   pub counts : entry_items entry ≡ count
   pub held : n.items + count ≤ max_items → entry ≡ row_entry w file words n
   pub stays :
@@ -120,7 +120,7 @@ pub record LineHeld (w : LineWord) (file words : List ℕ) (n : Counts) (t : Tex
 
 abbrev pub LineIs : LineWord → List ℕ → List ℕ → Counts → Text → LineRead → Type 0
 LineIs w file words n t (LineRead.Is count end) = LineHeld w file words n t count end
-LineIs w file words n t LineRead.Wrong = line_from w t ≡ none
+LineIs w file words n t LineRead.Wrong = line_from w t ≡ None
 
 pub record LinePut (w : LineWord) (file words : List ℕ) (n : Counts) (t : Text) (words' : List ℕ) (r : LineRead) : Type 0 where
   pub left : Left n words words'

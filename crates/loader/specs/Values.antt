@@ -1,6 +1,6 @@
 -- What the words of a field hold, by the field's kind. Assumes nothing.
 use Rattle.std.specs.Prelude.{ℕ, ◌/◌, ◌%◌, Bool, true, false, drop}
-use Rattle.std.proofs.Math.Option.{Option, none, some}
+use Rattle.std.specs.Prelude.{Option, None, Some}
 use Rattle.model.specs.Common.{Text}
 use Rattle.format.specs.declared.Kind.{Kind}
 use Rattle.format.specs.Fields.{Value, absent, number, text, Read}
@@ -20,13 +20,13 @@ parts w = record { low = w % 4294967296; high = w / 4294967296 }
 
 -- a link or `-`
 abbrev pub linked : Option ℕ → Value
-linked none = absent
-linked (some n) = number n
+linked None = absent
+linked (Some n) = number n
 
 -- a name or `-`
 abbrev pub named : Option Text → Value
-named none = absent
-named (some t) = text t
+named None = absent
+named (Some t) = text t
 
 -- the value that a field's words hold
 abbrev pub value_by : Kind → Text → Words → Value
@@ -55,10 +55,10 @@ is_link Kind.BinaryOp = false
 is_link Kind.Unused = false
 
 abbrev pub slot_words_is : Kind → Text → SlotWords → Option Read
-slot_words_is k file (SlotWords.Are w e) = some (record { value = value_by k file (parts w); rest = drop e file })
-slot_words_is k file SlotWords.Wrong = none
+slot_words_is k file (SlotWords.Are w e) = Some (record { value = value_by k file (parts w); rest = drop e file })
+slot_words_is k file SlotWords.Wrong = None
 
 abbrev pub three_words_is : Kind → Kind → Kind → Text → ThreeWords → Option Three
 three_words_is ka kb kc file (ThreeWords.Are a b c e) =
-    some (record { a = value_by ka file (parts a); b = value_by kb file (parts b); c = value_by kc file (parts c); rest = drop e file })
-three_words_is ka kb kc file ThreeWords.Wrong = none
+    Some (record { a = value_by ka file (parts a); b = value_by kb file (parts b); c = value_by kc file (parts c); rest = drop e file })
+three_words_is ka kb kc file ThreeWords.Wrong = None

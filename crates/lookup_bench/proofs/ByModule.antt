@@ -2,7 +2,7 @@
 use mathlib.Core.Path.{◌≡◌, sym, ap, ◌∙◌}
 use Prim.Native.Nat.{ℕ}
 use mathlib.Core.List.{List}
-use mathlib.Core.Option.{Option, none}
+use Rattle.std.specs.Prelude.{Option, None}
 use Rattle.model.specs.Common.{let_some}
 use Rattle.model.specs.Records.{Module}
 use Rattle.model.specs.Lookups.{module_at}
@@ -11,8 +11,8 @@ use Rattle.semantic_index.specs.declared.ModuleLink.{ModuleLink}
 use Rattle.lookup_bench.specs.Numbers.{link_number, module_to, in_module}
 
 module _ (file words : List ℕ) (m : ℕ) (to : ModuleLink) (is : module_at (index_of file words) m ≡ module_to file words to) (lookup : Module → Option ℕ) where
-  number_by : (at : ModuleLink) → to ≡ at → link_number (in_module (index_of file words) m lookup) ≡ link_number (let_some (module_to file words at) none lookup)
-  number_by at h = ap (λ o. link_number (let_some o none lookup)) (is ∙ ap (module_to file words) h)
+  number_by : (at : ModuleLink) → to ≡ at → link_number (in_module (index_of file words) m lookup) ≡ link_number (let_some (module_to file words at) None lookup)
+  number_by at h = ap (λ o. link_number (let_some o None lookup)) (is ∙ ap (module_to file words) h)
 
   pub absent : to ≡ ModuleLink.Absent → 0 ≡ link_number (in_module (index_of file words) m lookup)
   absent h = sym (number_by ModuleLink.Absent h)

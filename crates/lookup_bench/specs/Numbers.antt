@@ -1,6 +1,6 @@
 -- How results are written as numbers, and a lookup in the module of a number. Definitions only.
 use Rattle.std.specs.Prelude.{ℕ, ◌+◌, ◌≤◌, ◌<◌, ◌≡◌, List, length}
-use Rattle.std.proofs.Math.Option.{Option, none, some}
+use Rattle.std.specs.Prelude.{Option, None, Some}
 use Rattle.model.specs.Common.{let_some}
 use Rattle.model.specs.Records.{Module, Index}
 use Rattle.model.specs.Lookups.{module_at}
@@ -12,17 +12,17 @@ use Rattle.loader.specs.declared.Loaded.{Loaded}
 
 -- a link that may be absent: 0, or the number and 1
 abbrev pub link_number : Option ℕ → ℕ
-link_number none = 0
-link_number (some n) = n + 1
+link_number None = 0
+link_number (Some n) = n + 1
 
 -- the module that a link leads to, of the index that the words hold
 abbrev pub module_to : List ℕ → List ℕ → ModuleLink → Option Module
-module_to file words ModuleLink.Absent = none
-module_to file words (ModuleLink.To m) = some (module_row file words m)
+module_to file words ModuleLink.Absent = None
+module_to file words (ModuleLink.To m) = Some (module_row file words m)
 
 -- what a lookup finds in the module of a number: none where the index has no such module
 abbrev pub in_module : Index → ℕ → (Module → Option ℕ) → Option ℕ
-in_module index m lookup = let_some (module_at index m) none lookup
+in_module index m lookup = let_some (module_at index m) None lookup
 
 -- 0 for an accepted file, else the refusal's number
 abbrev pub loaded_number : Loaded → ℕ

@@ -7,10 +7,11 @@ use mathlib.Core.Path.{◌≡◌, refl, sym, ◌∙◌, ap, subst}
 use mathlib.Core.Bool.{Bool, true, false, not, ◌&&◌, false≢true}
 use mathlib.Core.List.{List, [], ◌∷◌, ◌++◌, append_assoc, append-nil}
 use mathlib.Core.Logic.{⊎_elim}
-use mathlib.Core.Option.{Option, none, some}
+use Rattle.std.specs.Prelude.{Option, None, Some}
 use lib.Dec.{leb, ltb}
 use borrow.Author.Tests.{leb-false}
-use lib.ListN.{length, get_elem?}
+use Rattle.std.specs.Prelude.{slice_get}
+use lib.ListN.{length}
 use Rattle.std.specs.Prelude.{if◌then◌else◌}
 use Rattle.model.specs.Common.{any}
 use Rattle.model.specs.Records.{ExpressionInfo, Module}
@@ -29,15 +30,15 @@ module _ (position : ℕ) where
     pub its_length : span shortest.expression ≡ best.length
 
   abbrev pub Kept : List ExpressionInfo → Option Best → Type 0
-  Kept done none = NoneCovers done position
-  Kept done (some best) = IsBest done best
+  Kept done None = NoneCovers done position
+  Kept done (Some best) = IsBest done best
 
-  pub kept_start : Kept [] none
+  pub kept_start : Kept [] None
   kept_start k y e covering = none≢some e
 
   -- a new best
   new_best : (done : List ExpressionInfo) (x : ExpressionInfo) → covers position x ≡ true
-      → ((k : ℕ) (y : ExpressionInfo) → get_elem? done k ≡ some y → covers position y ≡ true → span x ≤ span y)
+      → ((k : ℕ) (y : ExpressionInfo) → slice_get done k ≡ Some y → covers position y ≡ true → span x ≤ span y)
       → IsBest (done ++ (x ∷ [])) (record { number = length done; length = span x })
   new_best done x covering least =
       record {
@@ -92,32 +93,32 @@ module _ (position : ℕ) where
   pub kept_turn : (done : List ExpressionInfo) (best : Option Best) (x : ExpressionInfo) → Kept done best
       → Kept (done ++ (x ∷ [])) (turn position (length done) best x)
   unfolding turn better
-  kept_turn done none x kept = by_test (covers position x) refl
+  kept_turn done None x kept = by_test (covers position x) refl
     where
-      by_test : (b : Bool) → covers position x ≡ b → Kept (done ++ (x ∷ [])) (if b then some (record { number = length done; length = span x }) else none)
+      by_test : (b : Bool) → covers position x ≡ b → Kept (done ++ (x ∷ [])) (if b then Some (record { number = length done; length = span x }) else None)
       by_test true e = new_best done x e (λ k y old h. absurd (kept k y old h))
       by_test false e =
           λ k y h covering.
           ⊎_elim (λ old. kept k y old covering) (λ added. false≢true (sym e ∙ ap (covers position) added.1 ∙ covering)) (getElem_snoc done x y k h)
-  kept_turn done (some best) x kept = by_test (covers position x) refl (leb (span x) best.length) refl
+  kept_turn done (Some best) x kept = by_test (covers position x) refl (leb (span x) best.length) refl
     where
       by_test : (b : Bool) → covers position x ≡ b → (c : Bool) → leb (span x) best.length ≡ c
-          → Kept (done ++ (x ∷ [])) (if (b && c) then some (record { number = length done; length = span x }) else some best)
+          → Kept (done ++ (x ∷ [])) (if (b && c) then Some (record { number = length done; length = span x }) else Some best)
       by_test true e true f =
           new_best done x e (λ k y old h. omega (arith, leb_le (span x) best.length f, kept.its_length, kept.shortest.none_shorter k y old h))
       by_test true e false f = old_best done x best kept (λ h. leb-false (span x) best.length f)
       by_test false e c f = old_best done x best kept (λ h. absurd (false≢true (sym e ∙ h)))
 
   pub kept_chosen : (done : List ExpressionInfo) (best : Option Best) → Kept done best → Chosen done position (best_number best)
-  kept_chosen done none kept = kept
-  kept_chosen done (some best) kept = kept.shortest
+  kept_chosen done None kept = kept
+  kept_chosen done (Some best) kept = kept.shortest
 
   -- ---------------------------------------------------------------- the definition
 
   -- what those words choose is what the definition finds
   pub chosen_found : (the_module : Module) (o : Option ℕ) → Chosen the_module.expressions position o → expression_at_position the_module position ≡ o
   unfolding expression_at_position covers_shortest covers_shorter
-  chosen_found the_module none covers_none = last_none test xs (λ k. nowhere k (passes test xs k) refl)
+  chosen_found the_module None covers_none = last_none test xs (λ k. nowhere k (passes test xs k) refl)
     where
       xs : List ExpressionInfo
       xs = the_module.expressions
@@ -126,9 +127,9 @@ module _ (position : ℕ) where
       test x = covers position x && not (any (λ y. covers position y && ltb (span y) (span x)) xs)
 
       nowhere : (k : ℕ) (b : Bool) → passes test xs k ≡ b → b ≡ false
-      nowhere k true e = let (x, there, t) = passes_some (get_elem? xs k) test e in absurd (covers_none k x there (and_left (covers position x) _ t))
+      nowhere k true e = let (x, there, t) = passes_some (slice_get xs k) test e in absurd (covers_none k x there (and_left (covers position x) _ t))
       nowhere k false e = refl
-  chosen_found the_module (some number) chosen = last_is test xs number here later
+  chosen_found the_module (Some number) chosen = last_is test xs number here later
     where
       xs : List ExpressionInfo
       xs = the_module.expressions
@@ -144,7 +145,7 @@ module _ (position : ℕ) where
 
       none_passes : (k : ℕ) (c : Bool) → passes (shorter (span x)) xs k ≡ c → c ≡ false
       none_passes k true e =
-          let (y, there, t) = passes_some (get_elem? xs k) (shorter (span x)) e in
+          let (y, there, t) = passes_some (slice_get xs k) (shorter (span x)) e in
           let less = ltb_lt (span y) (span x) (and_right (covers position y) _ t) in
           let least = chosen.none_shorter k y there (and_left (covers position y) _ t) in
           absurd (omega (arith, less, least))
@@ -154,7 +155,7 @@ module _ (position : ℕ) where
       here = some_passes test chosen.found (λ i. chosen.covering i && not (any_none (shorter (span x)) xs (λ k. none_passes k (passes (shorter (span x)) xs k) refl) i))
 
       -- one with a higher number that covers the byte is longer, so this one is shorter than it
-      longer : (k : ℕ) (y : ExpressionInfo) → number < k → get_elem? xs k ≡ some y → covers position y ≡ true → span x < span y
+      longer : (k : ℕ) (y : ExpressionInfo) → number < k → slice_get xs k ≡ Some y → covers position y ≡ true → span x < span y
       longer k y less there covering = by_test (ltb (span x) (span y)) refl
         where
           by_test : (b : Bool) → ltb (span x) (span y) ≡ b → span x < span y
@@ -166,7 +167,7 @@ module _ (position : ℕ) where
 
       later_fails : (k : ℕ) → number < k → (c : Bool) → passes test xs k ≡ c → c ≡ false
       later_fails k less true e =
-          let (y, there, t) = passes_some (get_elem? xs k) test e in
+          let (y, there, t) = passes_some (slice_get xs k) test e in
           let is_longer = longer k y less there (and_left (covers position y) _ t) in
           let is_shorter : shorter (span y) x ≡ true = λ i. chosen.covering i && lt-ltb (span x) (span y) is_longer i in
           let found = any_some (shorter (span y)) xs number (some_passes (shorter (span y)) chosen.found is_shorter) in
@@ -186,6 +187,6 @@ module _ (position : ℕ) where
   -- so what the definition finds is what those words choose
   pub at_position_chosen : (the_module : Module) → Chosen the_module.expressions position (expression_at_position the_module position)
   at_position_chosen the_module =
-      let (end, at_end) = kept_end [] the_module.expressions none kept_start in
+      let (end, at_end) = kept_end [] the_module.expressions None kept_start in
       let chosen = kept_chosen the_module.expressions end at_end in
       subst (Chosen the_module.expressions position) (sym (chosen_found the_module (best_number end) chosen)) chosen

@@ -3,9 +3,9 @@ use Prim.Native.Nat.{ℕ}
 use mathlib.Core.Path.{◌≡◌, refl, sym, ◌∙◌, ap}
 use mathlib.Core.Bool.{Bool, true, false, ◌&&◌, ◌||◌, false≢true}
 use mathlib.Core.List.{List, [], ◌∷◌, tail}
-use mathlib.Core.Option.{Option, none, some}
+use Rattle.std.specs.Prelude.{Option, None, Some}
 use lib.Dec.{eqb}
-use lib.ListN.{get_elem?}
+use Rattle.std.specs.Prelude.{slice_get}
 use Rattle.model.specs.Common.{let_some, or_else, first_some, first, any}
 use Rattle.model.specs.Records.{Definition, Module}
 use Rattle.model.specs.Lookups.{parent, chain_from, scope_chain, is_function, among, function_around, first_function_around}
@@ -36,7 +36,7 @@ among_member n turn [] x'' h = elim x'' [ ]
 among_member n turn (s ∷ rest) (here e) h = ap (λ r. eqb n r || any (eqb n) rest) (sym e) ∙ ap (λ b. b || any (eqb n) rest) h
 among_member n turn (s ∷ rest) (later m) h = or_right (eqb n s) (any (eqb n) rest) (among_member n turn rest m h)
 
-module _ (definitions : List Definition) (s : ℕ) (ancestors : List ℕ) (none_fits : first (fits ancestors s) definitions ≡ none) where
+module _ (definitions : List Definition) (s : ℕ) (ancestors : List ℕ) (none_fits : first (fits ancestors s) definitions ≡ None) where
   fails : (turn : ℕ) → Member turn ancestors → (n : ℕ) → passes (fits ancestors turn) definitions n ≡ false
   unfolding fits
   fails turn member n =
@@ -44,7 +44,7 @@ module _ (definitions : List Definition) (s : ℕ) (ancestors : List ℕ) (none_
       (λ e. sym (first_none_fails (fits ancestors s) definitions none_fits n) ∙ at_first (passes_some _ (fits ancestors turn) e))
       (λ e. absurd (false≢true e))
     where
-      at_first : (x : Definition) × (get_elem? definitions n ≡ some x) × (fits ancestors turn x ≡ true) → passes (fits ancestors s) definitions n ≡ true
+      at_first : (x : Definition) × (slice_get definitions n ≡ Some x) × (fits ancestors turn x ≡ true) → passes (fits ancestors s) definitions n ≡ true
       at_first (x, e, t) =
           let around = among x.scope ancestors in
           some_passes (fits ancestors s) e
@@ -53,7 +53,7 @@ module _ (definitions : List Definition) (s : ℕ) (ancestors : List ℕ) (none_
           (or_split (eqb x.scope turn) around (and_right (is_function x.kind) (eqb x.scope turn || around) t) (among_member x.scope turn ancestors member)))
 
   rest_none : (turns : List ℕ) → ((turn : ℕ) → Member turn turns → Member turn ancestors)
-      → first_some (λ turn. first (fits ancestors turn) definitions) turns ≡ none
+      → first_some (λ turn. first (fits ancestors turn) definitions) turns ≡ None
   unfolding first_some
   rest_none [] inside = refl
   rest_none (turn ∷ turns) inside =
@@ -61,8 +61,8 @@ module _ (definitions : List Definition) (s : ℕ) (ancestors : List ℕ) (none_
 
 loops : (definitions : List Definition) (s : ℕ) (ancestors : List ℕ) (o : Option ℕ) → first (fits ancestors s) definitions ≡ o
     → or_else o (first_some (λ turn. first (fits ancestors turn) definitions) ancestors) ≡ o
-loops definitions s ancestors none e = rest_none definitions s ancestors e ancestors (λ t m. m)
-loops definitions s ancestors (some d) e = refl
+loops definitions s ancestors None e = rest_none definitions s ancestors e ancestors (λ t m. m)
+loops definitions s ancestors (Some d) e = refl
 
 pub return_loops_agree : (the_module : Module) (s : ℕ) → return_loops the_module s ≡ first_function_around the_module s
 unfolding return_loops first_function_around function_around scope_chain chain_from first_some fits among any

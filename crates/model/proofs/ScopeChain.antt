@@ -3,7 +3,7 @@ use Prim.Native.Nat.{ℕ, zero, suc, ◌<◌}
 use native.Mathlib.Nat.{le_refl, le_trans, le_of_suc-le-suc, not-suc-le-zero}
 use mathlib.Core.Path.{◌≡◌, refl, ap}
 use mathlib.Core.List.{List, [], ◌∷◌}
-use mathlib.Core.Option.{Option, none, some}
+use Rattle.std.specs.Prelude.{Option, None, Some}
 use Rattle.model.specs.Common.{let_some}
 use Rattle.model.specs.Records.{Module}
 use Rattle.model.specs.Lookups.{parent, chain_from, scope_chain}
@@ -18,8 +18,8 @@ chain_from_same the_module lower (suc n) (suc n') s h h' = go (λ p. chain_from_
   where
     go : ((p : ℕ) → p < n → p < n' → chain_from n the_module p ≡ chain_from n' the_module p) → (o : Option ℕ) → parent the_module s ≡ o
         → ◌≡◌ {A = List ℕ} (s ∷ let_some o [] (λ p. chain_from n the_module p)) (s ∷ let_some o [] (λ p. chain_from n' the_module p))
-    go rest none e = refl
-    go rest (some p) e =
+    go rest None e = refl
+    go rest (Some p) e =
         ap (λ (l : List ℕ). s ∷ l)
         (rest p (le_trans (lower s p e) (le_of_suc-le-suc h)) (le_trans (lower s p e) (le_of_suc-le-suc h')))
 
@@ -31,5 +31,5 @@ scope_chain_step the_module lower s = go (parent the_module s) refl
   where
     go : (o : Option ℕ) → parent the_module s ≡ o
         → ◌≡◌ {A = List ℕ} (s ∷ let_some o [] (λ p. chain_from s the_module p)) (s ∷ let_some o [] (λ p. chain_from (suc p) the_module p))
-    go none e = refl
-    go (some p) e = ap (λ (l : List ℕ). s ∷ l) (chain_from_same the_module lower s (suc p) p (lower s p e) (le_refl (suc p)))
+    go None e = refl
+    go (Some p) e = ap (λ (l : List ℕ). s ∷ l) (chain_from_same the_module lower s (suc p) p (lower s p e) (le_refl (suc p)))

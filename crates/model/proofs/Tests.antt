@@ -3,7 +3,7 @@ use Prim.Native.Nat.{ℕ, ◌≤◌, ◌<◌}
 use mathlib.Core.Path.{◌≡◌, refl, sym, ap, subst}
 use mathlib.Core.Bool.{Bool, true, false, not, ◌&&◌, ◌||◌, false≢true}
 use mathlib.Core.List.{List, [], ◌∷◌}
-use mathlib.Core.Option.{Option, none, some, get_or}
+use Rattle.std.specs.Prelude.{Option, None, Some, unwrap_or}
 use lib.Dec.{T, eqb, leb, ltb, eqb→eq, eqb_refl, leb→le, ltb→lt, nltb→le, lt→ltb}
 use Rattle.model.specs.Common.{let_some, eq_numbers}
 
@@ -80,16 +80,16 @@ eq_numbers_self (x ∷ xs) = λ i. elim (eqb_self x i) [ true ↦ eq_numbers_sel
 -- ------------------------------------------------------------------ options
 
 abbrev Missing : {A : Type 0} → Option A → Type 0
-Missing none = Unit {0}
-Missing (some x) = ⊥
+Missing None = Unit {0}
+Missing (Some x) = ⊥
 
-pub none≢some : {A : Type 0} {x : A} → none ≡ some x → ⊥
+pub none≢some : {A : Type 0} {x : A} → None ≡ Some x → ⊥
 none≢some e = subst Missing e tt
 
-pub some-injective : {A : Type 0} {x y : A} → some x ≡ some y → x ≡ y
-some-injective {x = x} e = ap (λ o. get_or o x) e
+pub some-injective : {A : Type 0} {x y : A} → Some x ≡ Some y → x ≡ y
+some-injective {x = x} e = ap (λ o. unwrap_or o x) e
 
 -- a lookup through another one that finds something
-pub some_of : {A B : Type 0} (o : Option A) (f : A → Option B) (b : B) → let_some o none f ≡ some b → (x : A) × (o ≡ some x) × (f x ≡ some b)
-some_of none f b e = absurd (none≢some e)
-some_of (some x) f b e = (x, refl, e)
+pub some_of : {A B : Type 0} (o : Option A) (f : A → Option B) (b : B) → let_some o None f ≡ Some b → (x : A) × (o ≡ Some x) × (f x ≡ Some b)
+some_of None f b e = absurd (none≢some e)
+some_of (Some x) f b e = (x, refl, e)

@@ -2,49 +2,49 @@
 use Rattle.std.specs.Prelude.{ℕ, zero, suc, ◌+◌, Bool, true, false, ◌&&◌, ◌||◌, List, [], ◌∷◌, ◌++◌, eqb, if◌then◌else◌}
 use Prim.Native.Char.{code}
 use Prim.Native.String.{String, [] as nil, ◌∷◌ as ◌then◌}
-use Rattle.std.proofs.Math.Option.{Option, none, some}
+use Rattle.std.specs.Prelude.{Option, None, Some}
 
 -- ------------------------------------------------------------------ choices
 
 -- Rust's `let Some(a) = o else { b }; f(a)`
-abbrev pub let_some {ℓ κ} : {A : Type ℓ} {B : Type κ} → Option A → B → (A → B) → B
-let_some none b f = b
-let_some (some a) b f = f a
+abbrev pub let_some {ℓ} : {A : Type 0} {B : Type ℓ} → Option A → B → (A → B) → B
+let_some None b f = b
+let_some (Some a) b f = f a
 
 -- the first of two that is there
 abbrev pub or_else : {A : Type 0} → Option A → Option A → Option A
-or_else none o = o
-or_else (some a) o = some a
+or_else None o = o
+or_else (Some a) o = Some a
 
 abbrev pub is_empty : {A : Type 0} → List A → Bool
 is_empty [] = true
 is_empty (x ∷ xs) = false
 
 abbrev pub is_none : {A : Type 0} → Option A → Bool
-is_none none = true
-is_none (some a) = false
+is_none None = true
+is_none (Some a) = false
 
 -- ------------------------------------------------------------------ searches
 
 -- the first answer that a function gives along a list
 unfoldable pub first_some : {A B : Type 0} → (A → Option B) → List A → Option B
-first_some f [] = none
+first_some f [] = None
 first_some f (x ∷ xs) = or_else (f x) (first_some f xs)
 
 -- a place in the rest of a list, as a place in the list
 abbrev pub next : Option ℕ → Option ℕ
-next none = none
-next (some n) = some (suc n)
+next None = None
+next (Some n) = Some (suc n)
 
 -- the place of the first element that passes the test, counted from 0
 unfoldable pub first : {A : Type 0} → (A → Bool) → List A → Option ℕ
-first test [] = none
-first test (x ∷ xs) = if test x then some zero else next (first test xs)
+first test [] = None
+first test (x ∷ xs) = if test x then Some zero else next (first test xs)
 
 -- the place of the last element that passes the test
 unfoldable pub last : {A : Type 0} → (A → Bool) → List A → Option ℕ
-last test [] = none
-last test (x ∷ xs) = or_else (next (last test xs)) (if test x then some zero else none)
+last test [] = None
+last test (x ∷ xs) = or_else (next (last test xs)) (if test x then Some zero else None)
 
 -- some element passes the test
 unfoldable pub any : {A : Type 0} → (A → Bool) → List A → Bool

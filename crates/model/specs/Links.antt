@@ -1,6 +1,6 @@
 -- The links of a record: "A link is a field that holds a record's number; a name is none". The records by kind, module and number. Assumes nothing.
 use Rattle.std.specs.Prelude.{ℕ, List, [], ◌∷◌, ◌++◌, map}
-use Rattle.std.proofs.Math.Option.{Option, none, some}
+use Rattle.std.specs.Prelude.{Option, None, Some}
 use Rattle.model.specs.Common.{let_some}
 use Rattle.model.specs.Records.{Name, Scope, TypeExpr, NameWithType, DefinitionKind, Definition, Origin, Expression, ExpressionInfo, Index}
 use Rattle.model.specs.Lookups.{module_at, scope_at, type_expr_at, definition_at, expression_at}
@@ -8,26 +8,26 @@ use Rattle.model.specs.Lookups.{module_at, scope_at, type_expr_at, definition_at
 -- ------------------------------------------------------------------ records by module and number
 
 abbrev pub module_name : Index → ℕ → Option Name
-module_name index m = let_some (module_at index m) none (λ the_module. some the_module.name)
+module_name index m = let_some (module_at index m) None (λ the_module. Some the_module.name)
 
 abbrev pub scope_in : Index → ℕ → ℕ → Option Scope
-scope_in index m s = let_some (module_at index m) none (λ the_module. scope_at the_module s)
+scope_in index m s = let_some (module_at index m) None (λ the_module. scope_at the_module s)
 
 abbrev pub type_in : Index → ℕ → ℕ → Option TypeExpr
-type_in index m t = let_some (module_at index m) none (λ the_module. type_expr_at the_module t)
+type_in index m t = let_some (module_at index m) None (λ the_module. type_expr_at the_module t)
 
 abbrev pub definition_in : Index → ℕ → ℕ → Option Definition
-definition_in index m d = let_some (module_at index m) none (λ the_module. definition_at the_module d)
+definition_in index m d = let_some (module_at index m) None (λ the_module. definition_at the_module d)
 
 abbrev pub expression_in : Index → ℕ → ℕ → Option ExpressionInfo
-expression_in index m e = let_some (module_at index m) none (λ the_module. expression_at the_module e)
+expression_in index m e = let_some (module_at index m) None (λ the_module. expression_at the_module e)
 
 -- ------------------------------------------------------------------ links
 
 -- a link that may be missing
 abbrev pub link : Option ℕ → List ℕ
-link none = []
-link (some n) = n ∷ []
+link None = []
+link (Some n) = n ∷ []
 
 abbrev pub links : List (Option ℕ) → List ℕ
 links [] = []

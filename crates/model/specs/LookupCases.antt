@@ -2,7 +2,7 @@
 -- question stand at the borders of the tests: equal to a start or an end, and one off. Assumes nothing.
 use Rattle.std.specs.Prelude.{ℕ, ◌≡◌, refl, Bool, true, false, List, [], ◌∷◌, map}
 use Prim.Native.String.{String}
-use Rattle.std.proofs.Math.Option.{Option, none, some}
+use Rattle.std.specs.Prelude.{Option, None, Some}
 use Rattle.model.specs.Common.{bytes}
 use Rattle.model.specs.Records.{ScopeKind, Scope, DefinitionKind, Definition, Origin, Expression, ExpressionInfo, Module, Index}
 use Rattle.model.specs.Lookups.{
@@ -51,11 +51,11 @@ define s name start end kind =
 -- scope, start, end, recorded definition
 abbrev identifier : ℕ → ℕ → ℕ → Option ℕ → ExpressionInfo
 identifier s start end definition =
-    record { scope = s; start = start; end = end; expected = none; definition = definition; origin = Origin.Plain; node = Expression.Identifier (bytes "a") }
+    record { scope = s; start = start; end = end; expected = None; definition = definition; origin = Origin.Plain; node = Expression.Identifier (bytes "a") }
 
 -- a function (scope 1) with a block (scope 2) in it, and a second function (scope 3)
 abbrev scopes : List Scope
-scopes = scope none ScopeKind.ModuleScope ∷ scope (some 0) ScopeKind.FunctionScope ∷ scope (some 1) ScopeKind.BlockScope ∷ scope (some 0) ScopeKind.FunctionScope ∷ []
+scopes = scope None ScopeKind.ModuleScope ∷ scope (Some 0) ScopeKind.FunctionScope ∷ scope (Some 1) ScopeKind.BlockScope ∷ scope (Some 0) ScopeKind.FunctionScope ∷ []
 
 -- `a` is defined twice in the module's scope and twice in the function's. The values of the `let` a (D 3) and of the `const` c (D 6) are E 0 and E 1;
 -- the `let`s v (D 9) and w (D 10) are taken from E 3, and w has it as its value too, as the Rust's builder makes it
@@ -69,16 +69,16 @@ names =
           define 0 "a" 10 20 (DefinitionKind.Struct [])
           ∷ define 0 "f" 30 90 (DefinitionKind.Function 0 [])
           ∷ define 1 "a" 40 45 (DefinitionKind.Parameter 0)
-          ∷ define 1 "a" 50 60 (DefinitionKind.Let none (some 0) none [])
+          ∷ define 1 "a" 50 60 (DefinitionKind.Let None (Some 0) None [])
           ∷ define 2 "b" 62 66 DefinitionKind.LoopVariable
-          ∷ define 0 "a" 100 110 (DefinitionKind.Const none none)
-          ∷ define 0 "c" 200 220 (DefinitionKind.Const none (some 1))
+          ∷ define 0 "a" 100 110 (DefinitionKind.Const None None)
+          ∷ define 0 "c" 200 220 (DefinitionKind.Const None (Some 1))
           ∷ define 0 "u" 230 240 (DefinitionKind.Use (bytes "other") (bytes "u"))
           ∷ define 0 "g" 250 290 (DefinitionKind.Function 0 [])
-          ∷ define 3 "v" 260 280 (DefinitionKind.Let none none (some 3) [])
-          ∷ define 3 "w" 262 280 (DefinitionKind.Let none (some 3) (some 3) [])
+          ∷ define 3 "v" 260 280 (DefinitionKind.Let None None (Some 3) [])
+          ∷ define 3 "w" 262 280 (DefinitionKind.Let None (Some 3) (Some 3) [])
           ∷ [];
-      expressions = identifier 1 55 58 (some 2) ∷ identifier 0 210 211 (some 6) ∷ identifier 1 70 71 none ∷ identifier 3 265 270 none ∷ [];
+      expressions = identifier 1 55 58 (Some 2) ∷ identifier 0 210 211 (Some 6) ∷ identifier 1 70 71 None ∷ identifier 3 265 270 None ∷ [];
     }
 
 -- ------------------------------------------------------------------ by name alone
@@ -86,14 +86,14 @@ names =
 -- scope, name: the last definition, in this scope
 unfoldable pub latest_cases : List (Case (ℕ × String) (Option ℕ))
 latest_cases =
-    (0, "a") gives some 5
-    ∷ (1, "a") gives some 3
-    ∷ (2, "a") gives none
-    ∷ (2, "b") gives some 4
-    ∷ (3, "a") gives none
-    ∷ (0, "f") gives some 1
-    ∷ (0, "ff") gives none
-    ∷ (4, "a") gives none
+    (0, "a") gives Some 5
+    ∷ (1, "a") gives Some 3
+    ∷ (2, "a") gives None
+    ∷ (2, "b") gives Some 4
+    ∷ (3, "a") gives None
+    ∷ (0, "f") gives Some 1
+    ∷ (0, "ff") gives None
+    ∷ (4, "a") gives None
     ∷ []
 
 pub latest_holds : Holds (λ q. latest_definition_index_by_name names q.0 (bytes q.1)) latest_cases
@@ -111,14 +111,14 @@ chain_holds = refl
 -- scope, name: the last definition, in the nearest scope that has one
 unfoldable pub latest_in_chain_cases : List (Case (ℕ × String) (Option ℕ))
 latest_in_chain_cases =
-    (0, "a") gives some 5
-    ∷ (1, "a") gives some 3
-    ∷ (2, "a") gives some 3
-    ∷ (2, "b") gives some 4
-    ∷ (1, "b") gives none
-    ∷ (2, "f") gives some 1
-    ∷ (3, "a") gives some 5
-    ∷ (3, "b") gives none
+    (0, "a") gives Some 5
+    ∷ (1, "a") gives Some 3
+    ∷ (2, "a") gives Some 3
+    ∷ (2, "b") gives Some 4
+    ∷ (1, "b") gives None
+    ∷ (2, "f") gives Some 1
+    ∷ (3, "a") gives Some 5
+    ∷ (3, "b") gives None
     ∷ []
 
 pub latest_in_chain_holds : Holds (λ q. latest_definition_index_by_name_in_chain names q.0 (bytes q.1)) latest_in_chain_cases
@@ -140,40 +140,40 @@ at name s start end = record { name = name; scope = s; start = start; end = end 
 unfoldable pub position_cases : List (Case Use (Option ℕ))
 position_cases =
     -- the last that begins at the use or before it; the earlier one; in the module's scope the struct from any position, and the const from its own start on
-    at "a" 1 50 51 gives some 3
-    ∷ at "a" 1 49 50 gives some 2
-    ∷ at "a" 1 40 41 gives some 2
-    ∷ at "a" 1 39 40 gives some 0
-    ∷ at "a" 0 5 6 gives some 0
-    ∷ at "a" 0 99 100 gives some 0
-    ∷ at "a" 0 100 101 gives some 5
+    at "a" 1 50 51 gives Some 3
+    ∷ at "a" 1 49 50 gives Some 2
+    ∷ at "a" 1 40 41 gives Some 2
+    ∷ at "a" 1 39 40 gives Some 0
+    ∷ at "a" 0 5 6 gives Some 0
+    ∷ at "a" 0 99 100 gives Some 0
+    ∷ at "a" 0 100 101 gives Some 5
     -- in the value of the let it is not visible: the whole value, a part of it; not so a span that begins before it or ends behind it
-    ∷ at "a" 1 55 58 gives some 2
-    ∷ at "a" 1 56 57 gives some 2
-    ∷ at "a" 1 54 58 gives some 3
-    ∷ at "a" 1 55 59 gives some 3
+    ∷ at "a" 1 55 58 gives Some 2
+    ∷ at "a" 1 56 57 gives Some 2
+    ∷ at "a" 1 54 58 gives Some 3
+    ∷ at "a" 1 55 59 gives Some 3
     -- a const is visible in its own value, and so is a let in what it is taken from, unless that is its value too
-    ∷ at "c" 0 210 211 gives some 6
-    ∷ at "v" 3 265 270 gives some 9
-    ∷ at "w" 3 265 270 gives none
-    ∷ at "w" 3 271 272 gives some 10
+    ∷ at "c" 0 210 211 gives Some 6
+    ∷ at "v" 3 265 270 gives Some 9
+    ∷ at "w" 3 265 270 gives None
+    ∷ at "w" 3 271 272 gives Some 10
     -- a function, a `use` and a struct may stand behind their use; a const, a let, a parameter and a loop variable may not (struct and parameter:
     -- above)
-    ∷ at "f" 0 0 1 gives some 1
-    ∷ at "u" 0 0 1 gives some 7
-    ∷ at "c" 0 199 200 gives none
-    ∷ at "c" 0 200 201 gives some 6
-    ∷ at "b" 2 61 62 gives none
-    ∷ at "b" 2 62 63 gives some 4
-    ∷ at "v" 3 259 260 gives none
+    ∷ at "f" 0 0 1 gives Some 1
+    ∷ at "u" 0 0 1 gives Some 7
+    ∷ at "c" 0 199 200 gives None
+    ∷ at "c" 0 200 201 gives Some 6
+    ∷ at "b" 2 61 62 gives None
+    ∷ at "b" 2 62 63 gives Some 4
+    ∷ at "v" 3 259 260 gives None
     -- the nearest scope that has a visible one; a scope beside or below is not searched
-    ∷ at "a" 2 70 71 gives some 3
-    ∷ at "a" 2 55 58 gives some 2
-    ∷ at "a" 2 39 40 gives some 0
-    ∷ at "a" 3 70 71 gives some 0
-    ∷ at "a" 3 270 271 gives some 5
-    ∷ at "b" 1 70 71 gives none
-    ∷ at "v" 0 270 271 gives none
+    ∷ at "a" 2 70 71 gives Some 3
+    ∷ at "a" 2 55 58 gives Some 2
+    ∷ at "a" 2 39 40 gives Some 0
+    ∷ at "a" 3 70 71 gives Some 0
+    ∷ at "a" 3 270 271 gives Some 5
+    ∷ at "b" 1 70 71 gives None
+    ∷ at "v" 0 270 271 gives None
     ∷ []
 
 pub position_holds : Holds (λ q. resolve_name_at_position names (bytes q.name) q.scope q.start q.end) position_cases
@@ -182,7 +182,7 @@ position_holds = refl
 
 -- expression: the recorded definition
 unfoldable pub recorded_cases : List (Case ℕ (Option ℕ))
-recorded_cases = 0 gives some 2 ∷ 1 gives some 6 ∷ 2 gives none ∷ 4 gives none ∷ []
+recorded_cases = 0 gives Some 2 ∷ 1 gives Some 6 ∷ 2 gives None ∷ 4 gives None ∷ []
 
 pub recorded_holds : Holds (definition_for_identifier_expr names) recorded_cases
 unfolding looks_up names recorded_cases
@@ -200,14 +200,14 @@ spans =
       types = [];
       definitions = [];
       expressions =
-          identifier 0 10 30 none
-          ∷ identifier 0 10 14 none
-          ∷ identifier 1 20 22 none
-          ∷ identifier 0 24 27 none
-          ∷ identifier 1 26 29 none
-          ∷ identifier 2 20 22 none
-          ∷ identifier 0 40 40 none
-          ∷ identifier 0 48 44 none
+          identifier 0 10 30 None
+          ∷ identifier 0 10 14 None
+          ∷ identifier 1 20 22 None
+          ∷ identifier 0 24 27 None
+          ∷ identifier 1 26 29 None
+          ∷ identifier 2 20 22 None
+          ∷ identifier 0 40 40 None
+          ∷ identifier 0 48 44 None
           ∷ [];
     }
 
@@ -215,23 +215,23 @@ spans =
 unfoldable pub at_position_cases : List (Case ℕ (Option ℕ))
 at_position_cases =
     -- the first byte counts, the byte behind the last doesn't
-    9 gives none
-    ∷ 10 gives some 1
-    ∷ 13 gives some 1
-    ∷ 14 gives some 0
-    ∷ 29 gives some 0
-    ∷ 30 gives none
+    9 gives None
+    ∷ 10 gives Some 1
+    ∷ 13 gives Some 1
+    ∷ 14 gives Some 0
+    ∷ 29 gives Some 0
+    ∷ 30 gives None
     -- equally short ones: the highest number, from the same byte on and from different ones
-    ∷ 20 gives some 5
-    ∷ 21 gives some 5
-    ∷ 25 gives some 3
-    ∷ 26 gives some 4
-    ∷ 27 gives some 4
+    ∷ 20 gives Some 5
+    ∷ 21 gives Some 5
+    ∷ 25 gives Some 3
+    ∷ 26 gives Some 4
+    ∷ 27 gives Some 4
     -- an empty span and one that ends before it starts cover nothing
-    ∷ 40 gives none
-    ∷ 44 gives none
-    ∷ 46 gives none
-    ∷ 48 gives none
+    ∷ 40 gives None
+    ∷ 44 gives None
+    ∷ 46 gives None
+    ∷ 48 gives None
     ∷ []
 
 pub at_position_holds : Holds (expression_at_position spans) at_position_cases
@@ -243,14 +243,14 @@ at_position_holds = refl
 -- may stand behind its use, value of a let, is a function
 unfoldable pub kind_cases : List (Case DefinitionKind (Bool × Option ℕ × Bool))
 kind_cases =
-    DefinitionKind.Function 5 [] gives (true, none, true)
-    ∷ DefinitionKind.Struct [] gives (true, none, false)
-    ∷ DefinitionKind.Const (some 5) (some 6) gives (false, none, false)
-    ∷ DefinitionKind.Let (some 5) (some 6) (some 7) [] gives (false, some 6, false)
-    ∷ DefinitionKind.Let (some 5) none (some 7) [] gives (false, none, false)
-    ∷ DefinitionKind.Parameter 5 gives (false, none, false)
-    ∷ DefinitionKind.Use (bytes "m") (bytes "x") gives (true, none, false)
-    ∷ DefinitionKind.LoopVariable gives (false, none, false)
+    DefinitionKind.Function 5 [] gives (true, None, true)
+    ∷ DefinitionKind.Struct [] gives (true, None, false)
+    ∷ DefinitionKind.Const (Some 5) (Some 6) gives (false, None, false)
+    ∷ DefinitionKind.Let (Some 5) (Some 6) (Some 7) [] gives (false, Some 6, false)
+    ∷ DefinitionKind.Let (Some 5) None (Some 7) [] gives (false, None, false)
+    ∷ DefinitionKind.Parameter 5 gives (false, None, false)
+    ∷ DefinitionKind.Use (bytes "m") (bytes "x") gives (true, None, false)
+    ∷ DefinitionKind.LoopVariable gives (false, None, false)
     ∷ []
 
 pub kind_holds : Holds (λ kind. (is_top_level_allowed kind, let_value kind, is_function kind)) kind_cases
@@ -277,7 +277,7 @@ functions =
 
 -- scope: the first function definition, by number and not by nearness, whose scope is this one or an ancestor
 unfoldable pub function_cases : List (Case ℕ (Option ℕ))
-function_cases = 0 gives some 2 ∷ 1 gives some 1 ∷ 2 gives some 1 ∷ 3 gives some 2 ∷ 4 gives none ∷ []
+function_cases = 0 gives Some 2 ∷ 1 gives Some 1 ∷ 2 gives Some 1 ∷ 3 gives Some 2 ∷ 4 gives None ∷ []
 
 pub function_holds : Holds (first_function_around functions) function_cases
 unfolding looks_up functions function_cases
@@ -285,7 +285,7 @@ function_holds = refl
 
 -- the first scope without a parent. (Loading takes no module with a root behind another scope, with two roots or without scopes)
 unfoldable pub root_cases : List (Case (List (Option ℕ)) (Option ℕ))
-root_cases = (none ∷ some 0 ∷ []) gives some 0 ∷ (some 1 ∷ none ∷ none ∷ []) gives some 1 ∷ [] gives none ∷ []
+root_cases = (None ∷ Some 0 ∷ []) gives Some 0 ∷ (Some 1 ∷ None ∷ None ∷ []) gives Some 1 ∷ [] gives None ∷ []
 
 abbrev with_parents : List (Option ℕ) → Module
 with_parents parents =
@@ -300,7 +300,7 @@ abbrev modules : Index
 modules = record { version = 1; modules = names ∷ functions ∷ functions ∷ []; questions = [] }
 
 unfoldable pub module_cases : List (Case String (Option ℕ))
-module_cases = "names" gives some 0 ∷ "functions" gives some 1 ∷ "name" gives none ∷ "namess" gives none ∷ []
+module_cases = "names" gives Some 0 ∷ "functions" gives Some 1 ∷ "name" gives None ∷ "namess" gives None ∷ []
 
 pub module_holds : Holds (λ name. module_by_name modules (bytes name)) module_cases
 unfolding looks_up names functions module_cases

@@ -1,26 +1,26 @@
 -- The lookups of `place.rs`, `semantic_index.rs` and `builtins.rs`, under their Rust names; and the expression at a byte, which the Rust doesn't look for. Assumes nothing.
 use Rattle.std.specs.Prelude.{ℕ, zero, suc, ◌-◌, Bool, true, false, not, ◌&&◌, ◌||◌, List, [], ◌∷◌, eqb, leb, ltb}
-use Rattle.std.proofs.Math.Option.{Option, none}
-use Rattle.std.proofs.Math.ListN.{get_elem?}
+use Rattle.std.specs.Prelude.{Option, None}
+use Rattle.std.specs.Prelude.{slice_get}
 use Rattle.model.specs.Common.{let_some, is_none, first_some, first, last, any, eq_numbers, bytes}
 use Rattle.model.specs.Records.{Name, Scope, TypeExpr, DefinitionKind, Definition, ExpressionInfo, Module, Index}
 
 -- ------------------------------------------------------------------ records by number
 
 abbrev pub module_at : Index → ℕ → Option Module
-module_at index m = get_elem? index.modules m
+module_at index m = slice_get index.modules m
 
 abbrev pub scope_at : Module → ℕ → Option Scope
-scope_at the_module s = get_elem? the_module.scopes s
+scope_at the_module s = slice_get the_module.scopes s
 
 abbrev pub type_expr_at : Module → ℕ → Option TypeExpr
-type_expr_at the_module t = get_elem? the_module.types t
+type_expr_at the_module t = slice_get the_module.types t
 
 abbrev pub definition_at : Module → ℕ → Option Definition
-definition_at the_module d = get_elem? the_module.definitions d
+definition_at the_module d = slice_get the_module.definitions d
 
 abbrev pub expression_at : Module → ℕ → Option ExpressionInfo
-expression_at the_module e = get_elem? the_module.expressions e
+expression_at the_module e = slice_get the_module.expressions e
 
 -- ------------------------------------------------------------------ names
 
@@ -39,7 +39,7 @@ module_by_name index name = first (module_named name) index.modules
 -- ------------------------------------------------------------------ scopes
 
 unfoldable pub parent : Module → ℕ → Option ℕ
-parent the_module s = let_some (scope_at the_module s) none (λ scope. scope.parent)
+parent the_module s = let_some (scope_at the_module s) None (λ scope. scope.parent)
 
 unfoldable pub without_parent : Scope → Bool
 without_parent scope = is_none scope.parent
@@ -84,13 +84,13 @@ is_top_level_allowed DefinitionKind.LoopVariable = false
 
 -- `value_expr_id` of a let
 unfoldable pub let_value : DefinitionKind → Option ℕ
-let_value (DefinitionKind.Function t fields) = none
-let_value (DefinitionKind.Struct fields) = none
-let_value (DefinitionKind.Const t e) = none
+let_value (DefinitionKind.Function t fields) = None
+let_value (DefinitionKind.Struct fields) = None
+let_value (DefinitionKind.Const t e) = None
 let_value (DefinitionKind.Let t e v path) = e
-let_value (DefinitionKind.Parameter t) = none
-let_value (DefinitionKind.Use m item) = none
-let_value DefinitionKind.LoopVariable = none
+let_value (DefinitionKind.Parameter t) = None
+let_value (DefinitionKind.Use m item) = None
+let_value DefinitionKind.LoopVariable = None
 
 -- the span lies within the expression's, if there is one
 unfoldable pub covered : Option ExpressionInfo → ℕ → ℕ → Bool
@@ -124,7 +124,7 @@ resolve_name_at_position the_module name s start end =
 
 -- `definition_for_identifier_expr`: the recorded link
 unfoldable pub definition_for_identifier_expr : Module → ℕ → Option ℕ
-definition_for_identifier_expr the_module e = let_some (expression_at the_module e) none (λ expression. expression.definition)
+definition_for_identifier_expr the_module e = let_some (expression_at the_module e) None (λ expression. expression.definition)
 
 -- ------------------------------------------------------------------ the expression at a byte
 

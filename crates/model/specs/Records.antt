@@ -2,7 +2,7 @@
 -- list of its kind, counted from 0, and a link is such a number: an ExpressionId, a DefinitionIndex or a FileScopeId, by the field that holds
 -- it. (The code has three types for these.) Names follow the Rust where it has one. Assumes nothing.
 use Rattle.std.specs.Prelude.{ℕ, List}
-use Rattle.std.proofs.Math.Option.{Option}
+use Rattle.std.specs.Prelude.{Option}
 use Rattle.model.specs.Common.{Text}
 
 -- "1 to 64 bytes from 21 to 7E hexadecimal, and not `-`"

@@ -4,25 +4,26 @@ use Prim.Native.Nat.{ℕ, zero, suc, ◌+◌, ◌-◌, ◌≤◌, ◌<◌}
 use native.Mathlib.Nat.{not-suc-le-zero, le_of_suc-le-suc, add-zero, zero-add, sub-zero}
 use native.Mathlib.Omega.{arith}
 use mathlib.Core.List.{List, [], ◌∷◌, ◌++◌}
-use mathlib.Core.Option.{none, some}
+use Rattle.std.specs.Prelude.{None, Some}
 use mathlib.Core.Bool.{Bool, true, false}
 use lib.Dec.{ltb}
 use borrow.Author.Tests.{ltb-true, ltb-false}
-use lib.ListN.{get_elem?, length}
+use Rattle.std.specs.Prelude.{slice_get}
+use lib.ListN.{length}
 use Rattle.std.specs.Prelude.{if◌then◌else◌}
 use Rattle.records.specs.Layout.{word, each, begin_of, count_of, rows_of}
 
 module _ {A : Type 0} (f : ℕ → A) where
-  pub each_at : (first count i : ℕ) → i < count → get_elem? (each f first count) i ≡ some (f (first + i))
+  pub each_at : (first count i : ℕ) → i < count → slice_get (each f first count) i ≡ Some (f (first + i))
   unfolding each
   each_at first zero i h = absurd (not-suc-le-zero h)
-  each_at first (suc count) zero h = ap (λ n. some (f n)) (sym (add-zero first))
-  each_at first (suc count) (suc i) h = each_at (suc first) count i (le_of_suc-le-suc h) ∙ ap (λ n. some (f n)) (over first i)
+  each_at first (suc count) zero h = ap (λ n. Some (f n)) (sym (add-zero first))
+  each_at first (suc count) (suc i) h = each_at (suc first) count i (le_of_suc-le-suc h) ∙ ap (λ n. Some (f n)) (over first i)
     where
       over : (a b : ℕ) → suc a + b ≡ a + suc b
       over a b = omega arith
 
-  pub each_past : (first count i : ℕ) → count ≤ i → get_elem? (each f first count) i ≡ none
+  pub each_past : (first count i : ℕ) → count ≤ i → slice_get (each f first count) i ≡ None
   unfolding each
   each_past first zero i h = refl
   each_past first (suc count) zero h = absurd (not-suc-le-zero h)
@@ -34,26 +35,26 @@ module _ {A : Type 0} (f : ℕ → A) where
   each_length first (suc count) = ap suc (each_length (suc first) count)
 
   -- an item of a list by place
-  pub each_found : (first count i : ℕ) (x : A) → i < count → x ≡ f (first + i) → some x ≡ get_elem? (each f first count) i
-  each_found first count i x below e = ap some e ∙ sym (each_at first count i below)
+  pub each_found : (first count i : ℕ) (x : A) → i < count → x ≡ f (first + i) → Some x ≡ slice_get (each f first count) i
+  each_found first count i x below e = ap Some e ∙ sym (each_at first count i below)
 
-  pub each_absent : (first count i : ℕ) → count ≤ i → none ≡ get_elem? (each f first count) i
+  pub each_absent : (first count i : ℕ) → count ≤ i → None ≡ slice_get (each f first count) i
   each_absent first count i past = sym (each_past first count i past)
 
   -- a list that begins at 0
-  pub each_if : (count i : ℕ) (b : Bool) → ltb i count ≡ b → get_elem? (each f 0 count) i ≡ (if b then some (f i) else none)
-  each_if count i true h = each_at 0 count i (ltb-true i count h) ∙ ap (λ k. some (f k)) (zero-add i)
+  pub each_if : (count i : ℕ) (b : Bool) → ltb i count ≡ b → slice_get (each f 0 count) i ≡ (if b then Some (f i) else None)
+  each_if count i true h = each_at 0 count i (ltb-true i count h) ∙ ap (λ k. Some (f k)) (zero-add i)
   each_if count i false h = each_past 0 count i (ltb-false i count h)
 
 -- a module's record by number, from where its rows begin and how many there are
 module _ {A : Type 0} (row : ℕ → A) (words : List ℕ) (m kind first count i : ℕ) (begins : first ≡ begin_of words m kind) (counts : count ≡ count_of words m kind) where
-  pub row_found : (x : A) → i < count → x ≡ row (first + i) → some x ≡ get_elem? (rows_of row words m kind) i
+  pub row_found : (x : A) → i < count → x ≡ row (first + i) → Some x ≡ slice_get (rows_of row words m kind) i
   unfolding rows_of
   row_found x below e =
-      ap some (e ∙ ap (λ a. row (a + i)) begins)
+      ap Some (e ∙ ap (λ a. row (a + i)) begins)
       ∙ sym (each_at row (begin_of words m kind) (count_of words m kind) i (subst (λ n. i < n) counts below))
 
-  pub row_absent : count ≤ i → none ≡ get_elem? (rows_of row words m kind) i
+  pub row_absent : count ≤ i → None ≡ slice_get (rows_of row words m kind) i
   unfolding rows_of
   row_absent past = sym (each_past row (begin_of words m kind) (count_of words m kind) i (subst (λ n. n ≤ i) counts past))
 

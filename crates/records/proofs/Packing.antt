@@ -3,7 +3,7 @@ use mathlib.Core.Path.{◌≡◌, refl, sym, ap, ◌∙◌}
 use Prim.Native.Nat.{ℕ, zero, suc, ◌+◌, ◌*◌, ◌/◌, ◌%◌, ◌≤◌, ◌<◌}
 use native.Mathlib.Omega.{arith}
 use mathlib.Core.List.{List, ◌∷◌}
-use mathlib.Core.Option.{some}
+use Rattle.std.specs.Prelude.{Some}
 use lib.ListN.{length, take, drop}
 use lib.Seq.{drop-cons}
 use Rattle.records.specs.Layout.{word, each, link_by, start_of, length_of, name_by, suffix_by}
@@ -20,7 +20,7 @@ node_packed node origin h = omega arith
 pub origin_packed : (node origin : ℕ) → node < 256 → (node + 256 * origin) / 256 ≡ origin
 origin_packed node origin h = omega arith
 
-pub link_packed : (n : ℕ) → link_by (n + 1) ≡ some n
+pub link_packed : (n : ℕ) → link_by (n + 1) ≡ Some n
 link_packed n = ap link_by (next n)
   where
     next : (n : ℕ) → n + 1 ≡ suc n
@@ -41,10 +41,10 @@ each_part l start (suc count) h =
     tail a b n h = omega arith
 
 -- a name that is there is no `-`
-pub suffix_packed : (file : List ℕ) (v : ℕ) → 0 < v → suffix_by file v ≡ some (name_by file v)
+pub suffix_packed : (file : List ℕ) (v : ℕ) → 0 < v → suffix_by file v ≡ Some (name_by file v)
 unfolding suffix_by
-suffix_packed file zero h = absurd (none h)
+suffix_packed file zero h = absurd (None h)
   where
-    none : 0 < 0 → ⊥
-    none h = omega arith
+    None : 0 < 0 → ⊥
+    None h = omega arith
 suffix_packed file (suc v) h = refl

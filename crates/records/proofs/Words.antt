@@ -3,15 +3,15 @@ use mathlib.Core.Path.{◌≡◌, refl, sym, ap, ap₂}
 use Prim.Native.Nat.{ℕ, zero, suc, ◌-◌}
 use native.Mathlib.Omega.{arith}
 use mathlib.Core.List.{List}
-use mathlib.Core.Option.{none, some}
+use Rattle.std.specs.Prelude.{None, Some}
 use Rattle.records.specs.Layout.{link_by, bytes_at, start_of, length_of, name_by, suffix_by}
 
 -- a word that isn't 0 is a link to the number below it
-pub link_some : (v : ℕ) → (v ≡ 0 → ⊥) → some (v - 1) ≡ link_by v
+pub link_some : (v : ℕ) → (v ≡ 0 → ⊥) → Some (v - 1) ≡ link_by v
 link_some zero h = absurd (h refl)
-link_some (suc n) h = let below : suc n - 1 ≡ n = omega arith in ap some below
+link_some (suc n) h = let below : suc n - 1 ≡ n = omega arith in ap Some below
 
-pub suffix_none : (file : List ℕ) (v : ℕ) → v ≡ 0 → none ≡ suffix_by file v
+pub suffix_none : (file : List ℕ) (v : ℕ) → v ≡ 0 → None ≡ suffix_by file v
 unfolding suffix_by
 suffix_none file v h = ap (suffix_by file) (sym h)
 
@@ -19,7 +19,7 @@ pub name_parts : (file : List ℕ) (v start length : ℕ) → start ≡ start_of
 unfolding name_by
 name_parts file v start length hs hl = ap₂ (bytes_at file) hs hl
 
-pub suffix_some : (file : List ℕ) (v : ℕ) → (v ≡ 0 → ⊥) → some (name_by file v) ≡ suffix_by file v
+pub suffix_some : (file : List ℕ) (v : ℕ) → (v ≡ 0 → ⊥) → Some (name_by file v) ≡ suffix_by file v
 unfolding suffix_by
 suffix_some file zero h = absurd (h refl)
 suffix_some file (suc v) h = refl

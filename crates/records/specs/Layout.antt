@@ -1,7 +1,7 @@
 -- The index that the record words hold, whatever words they are: fixed regions, one row for each record, rows of a kind numbered over the
 -- whole file. A word past the end is 0; a kind past the last is the last. Assumes nothing: these are definitions.
 use Rattle.std.specs.Prelude.{ℕ, zero, suc, ◌+◌, ◌-◌, ◌*◌, ◌/◌, ◌%◌, List, [], ◌∷◌, get_or}
-use Rattle.std.proofs.Math.Option.{Option, none, some}
+use Rattle.std.specs.Prelude.{Option, None, Some}
 use Rattle.model.specs.Records.{
   Name,
   ScopeKind,
@@ -56,8 +56,8 @@ each f first (suc count) = f first ∷ each f (suc first) count
 
 -- a link or `-`
 abbrev pub link_by : ℕ → Option ℕ
-link_by zero = none
-link_by (suc n) = some n
+link_by zero = None
+link_by (suc n) = Some n
 
 -- the bytes of the file from `start` on
 abbrev pub bytes_at : List ℕ → ℕ → ℕ → Name
@@ -75,8 +75,8 @@ name_by file v = bytes_at file (start_of v) (length_of v)
 
 -- a name or `-`
 unfoldable pub suffix_by : List ℕ → ℕ → Option Name
-suffix_by file zero = none
-suffix_by file (suc v) = some (name_by file (suc v))
+suffix_by file zero = None
+suffix_by file (suc v) = Some (name_by file (suc v))
 
 -- an array's size, the low 32 bits first
 abbrev pub size_by : ℕ → ℕ → ℕ

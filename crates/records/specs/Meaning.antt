@@ -1,6 +1,6 @@
 -- What the values of the code mean in the model: names are parts of the file, lists are ranges of the item rows. Definitions only.
 use Rattle.std.specs.Prelude.{ℕ, List}
-use Rattle.std.proofs.Math.Option.{Option, none, some}
+use Rattle.std.specs.Prelude.{Option, None, Some}
 use Rattle.model.specs.Records as model
 use Rattle.records.specs.Layout.{bytes_at, numbers_at, links_at, names_with_types_at}
 use Rattle.records.specs.declared.Name.{Name}
@@ -43,24 +43,24 @@ abbrev pub names_with_types_of : List ℕ → List ℕ → Items → List model.
 names_with_types_of file words l = names_with_types_at file words l.first l.count
 
 abbrev pub scope_link_of : ScopeLink → Option ℕ
-scope_link_of ScopeLink.Absent = none
-scope_link_of (ScopeLink.To s) = some s.0
+scope_link_of ScopeLink.Absent = None
+scope_link_of (ScopeLink.To s) = Some s.0
 
 abbrev pub type_link_of : TypeLink → Option ℕ
-type_link_of TypeLink.Absent = none
-type_link_of (TypeLink.To t) = some t
+type_link_of TypeLink.Absent = None
+type_link_of (TypeLink.To t) = Some t
 
 abbrev pub definition_link_of : DefinitionLink → Option ℕ
-definition_link_of DefinitionLink.Absent = none
-definition_link_of (DefinitionLink.To d) = some d.0
+definition_link_of DefinitionLink.Absent = None
+definition_link_of (DefinitionLink.To d) = Some d.0
 
 abbrev pub expression_link_of : ExpressionLink → Option ℕ
-expression_link_of ExpressionLink.Absent = none
-expression_link_of (ExpressionLink.To e) = some e.0
+expression_link_of ExpressionLink.Absent = None
+expression_link_of (ExpressionLink.To e) = Some e.0
 
 abbrev pub suffix_of : List ℕ → Suffix → Option model.Name
-suffix_of file Suffix.Absent = none
-suffix_of file (Suffix.Named n) = some (name_of file n)
+suffix_of file Suffix.Absent = None
+suffix_of file (Suffix.Named n) = Some (name_of file n)
 
 -- ------------------------------------------------------------------ records
 
@@ -74,8 +74,8 @@ abbrev pub scope_of : Scope → model.Scope
 scope_of s = record { parent = scope_link_of s.parent; kind = scope_kind_of s.kind }
 
 abbrev pub found_scope_of : FoundScope → Option model.Scope
-found_scope_of FoundScope.Absent = none
-found_scope_of (FoundScope.Found s) = some (scope_of s)
+found_scope_of FoundScope.Absent = None
+found_scope_of (FoundScope.Found s) = Some (scope_of s)
 
 abbrev pub type_expr_of : List ℕ → List ℕ → TypeExpr → model.TypeExpr
 type_expr_of file words TypeExpr.Felt = model.TypeExpr.Felt
@@ -87,8 +87,8 @@ type_expr_of file words (TypeExpr.Tuple l) = model.TypeExpr.Tuple (numbers_of wo
 type_expr_of file words (TypeExpr.FixedArray t size) = model.TypeExpr.FixedArray t size
 
 abbrev pub found_type_expr_of : List ℕ → List ℕ → FoundTypeExpr → Option model.TypeExpr
-found_type_expr_of file words FoundTypeExpr.Absent = none
-found_type_expr_of file words (FoundTypeExpr.Found t) = some (type_expr_of file words t)
+found_type_expr_of file words FoundTypeExpr.Absent = None
+found_type_expr_of file words (FoundTypeExpr.Found t) = Some (type_expr_of file words t)
 
 abbrev pub definition_kind_of : List ℕ → List ℕ → DefinitionKind → model.DefinitionKind
 definition_kind_of file words (DefinitionKind.Function t l) = model.DefinitionKind.Function t (names_with_types_of file words l)
@@ -113,8 +113,8 @@ definition_of file words d =
     }
 
 abbrev pub found_definition_of : List ℕ → List ℕ → FoundDefinition → Option model.Definition
-found_definition_of file words FoundDefinition.Absent = none
-found_definition_of file words (FoundDefinition.Found d) = some (definition_of file words d)
+found_definition_of file words FoundDefinition.Absent = None
+found_definition_of file words (FoundDefinition.Found d) = Some (definition_of file words d)
 
 abbrev pub origin_of : List ℕ → Origin → model.Origin
 origin_of file Origin.Plain = model.Origin.Plain
@@ -178,8 +178,8 @@ info_of file words e =
     }
 
 abbrev pub found_expression_of : List ℕ → List ℕ → FoundExpression → Option model.ExpressionInfo
-found_expression_of file words FoundExpression.Absent = none
-found_expression_of file words (FoundExpression.Found e) = some (info_of file words e)
+found_expression_of file words FoundExpression.Absent = None
+found_expression_of file words (FoundExpression.Found e) = Some (info_of file words e)
 
 abbrev pub question_of : Question → model.Question
 question_of (Question.Expr m e t) = model.Question.expr m e.0 (type_link_of t)
@@ -188,19 +188,19 @@ question_of (Question.«Type» m t s) = model.Question.type m t s.0
 question_of (Question.At m position) = model.Question.at m position
 
 abbrev pub found_question_of : FoundQuestion → Option model.Question
-found_question_of FoundQuestion.Absent = none
-found_question_of (FoundQuestion.Found q) = some (question_of q)
+found_question_of FoundQuestion.Absent = None
+found_question_of (FoundQuestion.Found q) = Some (question_of q)
 
 -- ------------------------------------------------------------------ items
 
 abbrev pub number_item_of : NumberItem → Option ℕ
-number_item_of NumberItem.Absent = none
-number_item_of (NumberItem.Found n) = some n
+number_item_of NumberItem.Absent = None
+number_item_of (NumberItem.Found n) = Some n
 
 abbrev pub link_item_of : LinkItem → Option (Option ℕ)
-link_item_of LinkItem.Absent = none
-link_item_of (LinkItem.Found l) = some (expression_link_of l)
+link_item_of LinkItem.Absent = None
+link_item_of (LinkItem.Found l) = Some (expression_link_of l)
 
 abbrev pub name_with_type_item_of : List ℕ → NameWithTypeItem → Option model.NameWithType
-name_with_type_item_of file NameWithTypeItem.Absent = none
-name_with_type_item_of file (NameWithTypeItem.Found n t) = some (record { name = name_of file n; type = t })
+name_with_type_item_of file NameWithTypeItem.Absent = None
+name_with_type_item_of file (NameWithTypeItem.Found n t) = Some (record { name = name_of file n; type = t })

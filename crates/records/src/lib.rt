@@ -2,8 +2,8 @@
 #![tactic(auto)]
 
 ghost use Rattle.std.specs.Prelude.{◌≡◌, ℕ, ◌+◌, List, length};
-ghost use Rattle.std.proofs.Math.Option.{none, some};
-ghost use Rattle.std.proofs.Math.ListN.{get_elem?};
+ghost use Rattle.std.specs.Prelude.{None, Some};
+ghost use Rattle.std.specs.Prelude.{slice_get};
 ghost use Rattle.std.specs.Prelude.{if◌then◌else◌};
 ghost use Rattle.model.specs.Lookups.{module_at, scope_at, type_expr_at, definition_at, expression_at};
 ghost use Rattle.records.specs.Layout.{word, link_by, name_by, suffix_by, size_by, item_value, item_name};
@@ -766,7 +766,7 @@ pub fn question_row(words: &[u32], q: u32) -> Question
 
 // A question of the file, by its number.
 pub fn question_at(words: &[u32], q: u32) -> FoundQuestion
-    ensures { (file : List ℕ) → found_question_of result ≡ get_elem? (index_of file words.now).questions q }
+    ensures { (file : List ℕ) → found_question_of result ≡ slice_get (index_of file words.now).questions q }
 {
     if q < word_at(words, QUESTION_COUNT) {
         FoundQuestion::Found(question_row(words, q))
@@ -794,7 +794,7 @@ pub fn module_count(words: &[u32]) -> u32
 // Whether there is a module of that number.
 pub fn has_module(words: &[u32], m: u32) -> bool
     ensures { (file : List ℕ) → module_at (index_of file words.now) m
-        ≡ (if result then some (module_row file words.now m) else none) }
+        ≡ (if result then Some (module_row file words.now m) else None) }
 {
     m < word_at(words, MODULE_COUNT)
 }
@@ -829,7 +829,7 @@ pub fn item_name(words: &[u32], first: u32, i: u32) -> Name
 
 // A t of a tuple type, or an index of a path.
 pub fn number_item(words: &[u32], items: Items, i: u32) -> NumberItem
-    ensures { number_item_of result ≡ get_elem? (numbers_of words.now items) i }
+    ensures { number_item_of result ≡ slice_get (numbers_of words.now items) i }
 {
     let first = items.first;
     if i < items.count {
@@ -841,7 +841,7 @@ pub fn number_item(words: &[u32], items: Items, i: u32) -> NumberItem
 
 // An argument or an element, which may itself be absent.
 pub fn link_item(words: &[u32], items: Items, i: u32) -> LinkItem
-    ensures { link_item_of result ≡ get_elem? (links_of words.now items) i }
+    ensures { link_item_of result ≡ slice_get (links_of words.now items) i }
 {
     let first = items.first;
     if i < items.count {
@@ -854,7 +854,7 @@ pub fn link_item(words: &[u32], items: Items, i: u32) -> LinkItem
 // A field of a struct, or a parameter of a function.
 pub fn name_with_type_item(words: &[u32], items: Items, i: u32) -> NameWithTypeItem
     ensures { (file : List ℕ) → name_with_type_item_of file result
-        ≡ get_elem? (names_with_types_of file words.now items) i }
+        ≡ slice_get (names_with_types_of file words.now items) i }
 {
     let first = items.first;
     if i < items.count {

@@ -4,8 +4,9 @@ use Prim.Native.Nat.{ℕ, ◌≤◌}
 use native.Mathlib.Omega.{arith}
 use mathlib.Core.Path.{◌≡◌, refl, sym, ◌∙◌, ap, subst}
 use mathlib.Core.List.{[], ◌∷◌, Memᴰ}
-use mathlib.Core.Option.{Option, none, some}
-use lib.ListN.{length, get_elem?}
+use Rattle.std.specs.Prelude.{Option, None, Some}
+use Rattle.std.specs.Prelude.{slice_get}
+use lib.ListN.{length}
 use Rattle.model.specs.Common.{let_some, collect}
 use Rattle.model.specs.Records.{Question, Module, Index}
 use Rattle.model.specs.Lookups.{module_at, expression_at_position}
@@ -24,48 +25,48 @@ use Rattle.resolution.specs.Run.{Outcome, answered, refused, go_on, run, demand,
 use Rattle.resolution.proofs.RunLaws.{run_bind}
 
 -- a line tells what it is about
-pub line_about : (index : Index) (asked : Asked) (line : Line) → asked_line index asked ≡ some line → line.asked ≡ asked
+pub line_about : (index : Index) (asked : Asked) (line : Line) → asked_line index asked ≡ Some line → line.asked ≡ asked
 unfolding asked_line
 line_about index asked line e = go (verdict index asked) e
   where
-    go : (o : Option Verdict) → let_some o none (λ v. some (record { asked = asked; verdict = v })) ≡ some line → line.asked ≡ asked
-    go none h = absurd (none≢some h)
-    go (some v) h = ap (λ (l : Line). l.asked) (sym (some-injective h))
+    go : (o : Option Verdict) → let_some o None (λ v. Some (record { asked = asked; verdict = v })) ≡ Some line → line.asked ≡ asked
+    go None h = absurd (none≢some h)
+    go (Some v) h = ap (λ (l : Line). l.asked) (sym (some-injective h))
 
 -- what is asked for a type has a line, with the type or a refusal
-says_verdict : (handler : (d : Demand) → Table → Outcome (Answer d)) (p : Program ℕ) (table : Table) → (v : Verdict) × (outcome_verdict (run handler (says_type p) table) ≡ some v)
+says_verdict : (handler : (d : Demand) → Table → Outcome (Answer d)) (p : Program ℕ) (table : Table) → (v : Verdict) × (outcome_verdict (run handler (says_type p) table) ≡ Some v)
 unfolding says_type run go_on outcome_verdict said_verdict
 says_verdict handler p table = by_outcome (run handler p table) (ap outcome_verdict (run_bind handler p (λ t. done (Said.type t)) table))
   where
     by_outcome : (o : Outcome ℕ) → outcome_verdict (run handler (says_type p) table) ≡ outcome_verdict (go_on o (λ t after. answered (Said.type t) after))
-        → (v : Verdict) × (outcome_verdict (run handler (says_type p) table) ≡ some v)
+        → (v : Verdict) × (outcome_verdict (run handler (says_type p) table) ≡ Some v)
     by_outcome (answered t after) e = (text_verdict (type_text after t), e)
     by_outcome (refused n) e = (Verdict.refused n, e)
 
 -- what is asked at a byte has one too, with the type, a refusal or `none`
 says_at_verdict : (handler : (d : Demand) → Table → Outcome (Answer d)) (m : ℕ) (found : Option ℕ) (table : Table)
-    → (v : Verdict) × (outcome_verdict (run handler (says_at m found) table) ≡ some v)
+    → (v : Verdict) × (outcome_verdict (run handler (says_at m found) table) ≡ Some v)
 unfolding programs.let_some run outcome_verdict said_verdict says_at
-says_at_verdict handler m none table = (Verdict.worded none_word, refl)
-says_at_verdict handler m (some e) table = says_verdict handler (expression_semantic_type m e none) table
+says_at_verdict handler m None table = (Verdict.worded none_word, refl)
+says_at_verdict handler m (Some e) table = says_verdict handler (expression_semantic_type m e None) table
 
 at_verdict : (handler : (d : Demand) → Table → Outcome (Answer d)) (index : Index) (m position : ℕ) (table : Table)
-    → (v : Verdict) × (outcome_verdict (run handler (at_program index m position) table) ≡ some v)
+    → (v : Verdict) × (outcome_verdict (run handler (at_program index m position) table) ≡ Some v)
 unfolding programs.let_some run outcome_verdict said_verdict at_program
 at_verdict handler index m position table = by_module (module_at index m)
   where
     by_module : (o : Option Module)
-        → (v : Verdict) × (outcome_verdict (run handler (programs.let_some o (done none_said) λ the_module. says_at m (expression_at_position the_module position)) table) ≡ some v)
-    by_module none = (Verdict.worded none_word, refl)
-    by_module (some the_module) = says_at_verdict handler m (expression_at_position the_module position) table
+        → (v : Verdict) × (outcome_verdict (run handler (programs.let_some o (done none_said) λ the_module. says_at m (expression_at_position the_module position)) table) ≡ Some v)
+    by_module None = (Verdict.worded none_word, refl)
+    by_module (Some the_module) = says_at_verdict handler m (expression_at_position the_module position) table
 
-pub has_line : (index : Index) (asked : Asked) → HasLine asked → (line : Line) × (asked_line index asked ≡ some line)
+pub has_line : (index : Index) (asked : Asked) → HasLine asked → (line : Line) × (asked_line index asked ≡ Some line)
 unfolding asked_line verdict resolve_asked asked_program
-has_line index asked has = let (v, e) = by_kind asked has in (record { asked = asked; verdict = v }, ap (λ o. let_some o none (λ w. some (record { asked = asked; verdict = w }))) e)
+has_line index asked has = let (v, e) = by_kind asked has in (record { asked = asked; verdict = v }, ap (λ o. let_some o None (λ w. Some (record { asked = asked; verdict = w }))) e)
   where
-    by_kind : (asked : Asked) → HasLine asked → (v : Verdict) × (verdict index asked ≡ some v)
-    by_kind (Asked.expr m e none) tt = says_verdict (demand max_open_demands index []) (expression_semantic_type m e none) first_table
-    by_kind (Asked.expr m e (some t)) tt = says_verdict (demand max_open_demands index []) (expression_in_context index m e t) first_table
+    by_kind : (asked : Asked) → HasLine asked → (v : Verdict) × (verdict index asked ≡ Some v)
+    by_kind (Asked.expr m e None) tt = says_verdict (demand max_open_demands index []) (expression_semantic_type m e None) first_table
+    by_kind (Asked.expr m e (Some t)) tt = says_verdict (demand max_open_demands index []) (expression_in_context index m e t) first_table
     by_kind (Asked.def m d) tt = says_verdict (demand max_open_demands index []) (definition_semantic_type m d) first_table
     by_kind (Asked.type m t s) tt = says_verdict (demand max_open_demands index []) (resolve_ast_type m t s) first_table
     by_kind (Asked.at m position) tt = at_verdict (demand max_open_demands index []) index m position first_table
@@ -87,12 +88,12 @@ module _ (A B : Index) (asked : Asked) (same : asked_line A asked ≡ asked_line
       ap (λ o. let_some o [] (λ l. l ∷ [])) (ap (asked_line A) (sym is) ∙ same ∙ ap (asked_line B) is)
 
   pub numbered_same : (question : Question) → Asks question asked → (number : ℕ) → NumberOf question asked number
-      → get_elem? (question_lines A question) number ≡ get_elem? (question_lines B question) number
+      → slice_get (question_lines A question) number ≡ slice_get (question_lines B question) number
   unfolding question_lines question_asked
-  numbered_same (Question.expr m e context) asks number is = ap (λ l. get_elem? l number) (one_same (Asked.expr m e context) asks)
-  numbered_same (Question.def m d) asks number is = ap (λ l. get_elem? l number) (one_same (Asked.def m d) asks)
-  numbered_same (Question.type m t s) asks number is = ap (λ l. get_elem? l number) (one_same (Asked.type m t s) asks)
-  numbered_same (Question.at m position) asks number is = ap (λ l. get_elem? l number) (one_same (Asked.at m position) asks)
+  numbered_same (Question.expr m e context) asks number is = ap (λ l. slice_get l number) (one_same (Asked.expr m e context) asks)
+  numbered_same (Question.def m d) asks number is = ap (λ l. slice_get l number) (one_same (Asked.def m d) asks)
+  numbered_same (Question.type m t s) asks number is = ap (λ l. slice_get l number) (one_same (Asked.type m t s) asks)
+  numbered_same (Question.at m position) asks number is = ap (λ l. slice_get l number) (one_same (Asked.at m position) asks)
 
 -- ------------------------------------------------------------------ how much it asks
 

@@ -6,7 +6,7 @@ use native.Mathlib.Nat.{le_refl}
 use native.Mathlib.Omega.{arith}
 use mathlib.Core.Path.{◌≡◌, refl, sym, ◌∙◌, ap, subst}
 use mathlib.Core.Bool.{Bool, true, false}
-use mathlib.Core.Option.{none}
+use Rattle.std.specs.Prelude.{None}
 use lib.Dec.{ltb}
 use Rattle.model.specs.Common.{Text, let_some}
 use Rattle.model.specs.Records.{Question, Index}
@@ -26,7 +26,7 @@ unfolding parent
 inside_not_lower index body formed (body_scope m_is s_is) = subst (λ n. body.scope_number ≤ n) (sym s_is) (le_refl body.scope_number)
 inside_not_lower index body formed {m} {s} (below {p = p} {scope = scope} found is_parent inside) =
     let (the_module, at, there) = some_of (module_at index m) (λ n. scope_at n s) scope found in
-    let lower : p < s = formed.parents_lower m the_module at s p (ap (λ o. let_some o none (λ r. r.parent)) there ∙ is_parent) in
+    let lower : p < s = formed.parents_lower m the_module at s p (ap (λ o. let_some o None (λ r. r.parent)) there ∙ is_parent) in
     let up = inside_not_lower index body formed inside in
     omega (arith, lower, up)
 
@@ -36,7 +36,7 @@ scope_below index m s k (scope, found) less =
     let (the_module, at, there) = some_of (module_at index m) (λ n. scope_at n s) scope found in
     let bound = getElem_below the_module.scopes s there in
     let (x, here) = getElem_there the_module.scopes k (omega (arith, less, bound)) in
-    (x, ap (λ o. let_some o none (λ n. scope_at n k)) at ∙ here)
+    (x, ap (λ o. let_some o None (λ n. scope_at n k)) at ∙ here)
 
 -- where what is outside in the second index stands outside in the first, the first body has no lower number
 not_lower : (A B : Index) (a b : Body) (asked : Asked) → WellFormed B → IsBody B b → StandsIn B b A a asked

@@ -5,9 +5,9 @@ use Prim.Native.Nat.{ℕ, zero, suc}
 use mathlib.Core.Path.{◌≡◌, refl, sym, ◌∙◌, ap, subst}
 use mathlib.Core.Bool.{Bool, true, false, not, ◌&&◌, ◌||◌, false≢true}
 use mathlib.Core.List.{List, [], ◌∷◌, ◌++◌, Memᴰ}
-use mathlib.Core.Option.{Option, none, some}
+use Rattle.std.specs.Prelude.{Option, None, Some}
 use lib.Dec.{eqb}
-use lib.ListN.{get_elem?}
+use Rattle.std.specs.Prelude.{slice_get}
 use Rattle.std.specs.Prelude.{if◌then◌else◌}
 use Rattle.model.specs.Common.{let_some, any, every}
 use Rattle.model.specs.Records.{Name, ScopeKind, Scope, TypeExpr, Definition, Expression, ExpressionInfo, Module, Index}
@@ -27,7 +27,7 @@ every_of {A = A} test [] x h x4 = elim x4 [ ]
 every_of test (y ∷ ys) x h (Memᴰ.head e) = ap test e ∙ and_left (test y) (every test ys) h
 every_of test (y ∷ ys) x h (Memᴰ.tail named) = every_of test ys x (and_right (test y) (every test ys) h) named
 
-every_at : {A : Type 0} (test : A → Bool) (xs : List A) (n : ℕ) (x : A) → every test xs ≡ true → get_elem? xs n ≡ some x → test x ≡ true
+every_at : {A : Type 0} (test : A → Bool) (xs : List A) (n : ℕ) (x : A) → every test xs ≡ true → slice_get xs n ≡ Some x → test x ≡ true
 every_at test [] n x h e = absurd (none≢some e)
 every_at test (y ∷ ys) zero x h e = ap test (sym (some-injective e)) ∙ and_left (test y) (every test ys) h
 every_at test (y ∷ ys) (suc n) x h e = every_at test ys n x (and_right (test y) (every test ys) h) e
@@ -46,7 +46,7 @@ abbrev every_place : {A : Type 0} → (ℕ → A → Bool) → List A → Bool
 every_place test [] = true
 every_place test (x ∷ xs) = test zero x && every_place (λ n. test (suc n)) xs
 
-every_place_at : {A : Type 0} (test : ℕ → A → Bool) (xs : List A) (n : ℕ) (x : A) → every_place test xs ≡ true → get_elem? xs n ≡ some x → test n x ≡ true
+every_place_at : {A : Type 0} (test : ℕ → A → Bool) (xs : List A) (n : ℕ) (x : A) → every_place test xs ≡ true → slice_get xs n ≡ Some x → test n x ≡ true
 every_place_at test [] n x h e = absurd (none≢some e)
 every_place_at test (y ∷ ys) zero x h e =
     ap (test zero) (sym (some-injective e)) ∙ and_left (test zero y) (every_place (λ n. test (suc n)) ys) h
@@ -58,56 +58,56 @@ abbrev map_place : {A B : Type 0} → (ℕ → A → B) → List A → List B
 map_place f [] = []
 map_place f (x ∷ xs) = f zero x ∷ map_place (λ n. f (suc n)) xs
 
-pub map_place_at : {A B : Type 0} (f : ℕ → A → B) (xs : List A) (n : ℕ) → get_elem? (map_place f xs) n ≡ let_some (get_elem? xs n) none (λ x. some (f n x))
+pub map_place_at : {A B : Type 0} (f : ℕ → A → B) (xs : List A) (n : ℕ) → slice_get (map_place f xs) n ≡ let_some (slice_get xs n) None (λ x. Some (f n x))
 map_place_at f [] n = refl
 map_place_at f (x ∷ xs) zero = refl
 map_place_at f (x ∷ xs) (suc n) = map_place_at (λ k. f (suc k)) xs n
 
 -- what passes the test, each at its place, with `none` for what doesn't; behind the last that passes there is nothing
 abbrev before : {A : Type 0} → Option A → List (Option A) → List (Option A)
-before none [] = []
-before none (o ∷ os) = none ∷ o ∷ os
-before (some x) os = some x ∷ os
+before None [] = []
+before None (o ∷ os) = None ∷ o ∷ os
+before (Some x) os = Some x ∷ os
 
 abbrev pub when : {A : Type 0} → (A → Bool) → A → Option A
-when test x = if test x then some x else none
+when test x = if test x then Some x else None
 
 abbrev pub shown : {A : Type 0} → (ℕ → A → Bool) → List A → List (Option A)
 shown test [] = []
 shown test (x ∷ xs) = before (when (test zero) x) (shown (λ n. test (suc n)) xs)
 
 abbrev pub shown_in : {A : Type 0} → List (Option A) → ℕ → Option A
-shown_in os n = let_some (get_elem? os n) none (λ o. o)
+shown_in os n = let_some (slice_get os n) None (λ o. o)
 
 before_first : {A : Type 0} (o : Option A) (os : List (Option A)) → shown_in (before o os) zero ≡ o
-before_first none [] = refl
-before_first none (p ∷ ps) = refl
-before_first (some x) os = refl
+before_first None [] = refl
+before_first None (p ∷ ps) = refl
+before_first (Some x) os = refl
 
 before_rest : {A : Type 0} (o : Option A) (os : List (Option A)) (n : ℕ) → shown_in (before o os) (suc n) ≡ shown_in os n
-before_rest none [] n = refl
-before_rest none (p ∷ ps) n = refl
-before_rest (some x) os n = refl
+before_rest None [] n = refl
+before_rest None (p ∷ ps) n = refl
+before_rest (Some x) os n = refl
 
-shown_at : {A : Type 0} (test : ℕ → A → Bool) (xs : List A) (n : ℕ) → shown_in (shown test xs) n ≡ let_some (get_elem? xs n) none (when (test n))
+shown_at : {A : Type 0} (test : ℕ → A → Bool) (xs : List A) (n : ℕ) → shown_in (shown test xs) n ≡ let_some (slice_get xs n) None (when (test n))
 shown_at test [] n = refl
 shown_at test (x ∷ xs) zero = before_first (when (test zero) x) (shown (λ n. test (suc n)) xs)
 shown_at test (x ∷ xs) (suc n) =
     before_rest (when (test zero) x) (shown (λ k. test (suc k)) xs) n ∙ shown_at (λ k. test (suc k)) xs n
 
-pub when_some : {A : Type 0} (test : A → Bool) (o : Option A) (y : A) → let_some o none (when test) ≡ some y → (o ≡ some y) × (test y ≡ true)
-when_some test none y e = absurd (none≢some e)
-when_some {A} test (some x) y e = by_test (test x) refl e
+pub when_some : {A : Type 0} (test : A → Bool) (o : Option A) (y : A) → let_some o None (when test) ≡ Some y → (o ≡ Some y) × (test y ≡ true)
+when_some test None y e = absurd (none≢some e)
+when_some {A} test (Some x) y e = by_test (test x) refl e
   where
-    by_test : (t : Bool) → test x ≡ t → ◌≡◌ {A = Option A} (if t then some x else none) (some y) → (some x ≡ some y) × (test y ≡ true)
+    by_test : (t : Bool) → test x ≡ t → ◌≡◌ {A = Option A} (if t then Some x else None) (Some y) → (Some x ≡ Some y) × (test y ≡ true)
     by_test true h f = (f, ap test (sym (some-injective f)) ∙ h)
     by_test false h f = absurd (none≢some f)
 
-pub some_when : {A : Type 0} (test : A → Bool) (o : Option A) (x : A) → o ≡ some x → test x ≡ true → let_some o none (when test) ≡ some x
-some_when test o x e h = ap (λ r. let_some r none (when test)) e ∙ ap (λ t. if t then some x else none) h
+pub some_when : {A : Type 0} (test : A → Bool) (o : Option A) (x : A) → o ≡ Some x → test x ≡ true → let_some o None (when test) ≡ Some x
+some_when test o x e h = ap (λ r. let_some r None (when test)) e ∙ ap (λ t. if t then Some x else None) h
 
 -- a test that passes where nothing is found, or at what is found
-true_at : {A : Type 0} (test : A → Bool) (o : Option A) (x : A) → let_some o true test ≡ true → o ≡ some x → test x ≡ true
+true_at : {A : Type 0} (test : A → Bool) (o : Option A) (x : A) → let_some o true test ≡ true → o ≡ Some x → test x ≡ true
 true_at test o x h e = ap (λ r. let_some r true test) (sym e) ∙ h
 
 -- `a || b` where `a` fails
@@ -299,8 +299,8 @@ module _ (index : Index) (b : BodyScopes) where
 
   -- `AboutOutside`, a clause for each kind of line
   unfoldable pub about_test : Asked → Bool
-  about_test (Asked.expr m e none) = expression_there m e
-  about_test (Asked.expr m e (some t)) = expression_there m e && type_there m t
+  about_test (Asked.expr m e None) = expression_there m e
+  about_test (Asked.expr m e (Some t)) = expression_there m e && type_there m t
   about_test (Asked.def m d) = definition_there m d
   about_test (Asked.type m t s) = type_there m t && scope_there m s
   about_test (Asked.at m position) = uncovered m position
@@ -327,7 +327,7 @@ module _ (index : Index) (body : Body) where
   inside_there is_body (below {scope = scope} found is_parent inside) = (scope, found)
 
   -- what is inside has the body's scope in its chain
-  inside_chain : WellFormed index → {m s : ℕ} (the_module : Module) → module_at index m ≡ some the_module → Inside index body m s
+  inside_chain : WellFormed index → {m s : ℕ} (the_module : Module) → module_at index m ≡ Some the_module → Inside index body m s
       → among body.scope_number (scope_chain the_module s) ≡ true
   unfolding among any parent
   inside_chain formed {m} {s} the_module at (body_scope m_is s_is) =
@@ -342,12 +342,12 @@ module _ (index : Index) (body : Body) where
       (subst (λ (q : Option ℕ). (eqb body.scope_number s || any (eqb body.scope_number) (let_some q [] (λ r. scope_chain the_module r))) ≡ true) (sym the_parent)
       (or_right (eqb body.scope_number s) (any (eqb body.scope_number) (scope_chain the_module p)) (inside_chain formed the_module at inside)))
     where
-      the_parent : parent the_module s ≡ some p
+      the_parent : parent the_module s ≡ Some p
       the_parent =
-          ap (λ x. let_some x none (λ r. r.parent)) (ap (λ o. let_some o none (λ n. scope_at n s)) (sym at) ∙ found) ∙ is_parent
+          ap (λ x. let_some x None (λ r. r.parent)) (ap (λ o. let_some o None (λ n. scope_at n s)) (sym at) ∙ found) ∙ is_parent
 
   -- and what has it there is inside
-  chain_inside : (m : ℕ) (the_module : Module) → module_at index m ≡ some the_module → m ≡ body.module_number
+  chain_inside : (m : ℕ) (the_module : Module) → module_at index m ≡ Some the_module → m ≡ body.module_number
       → (more s : ℕ) → among body.scope_number (chain_from more the_module s) ≡ true → Inside index body m s
   unfolding among any chain_from parent
   chain_inside m the_module at is_m zero s e = absurd (false≢true e)
@@ -356,14 +356,14 @@ module _ (index : Index) (body : Body) where
       b : ℕ
       b = body.scope_number
 
-      above : (p : Option Scope) → scope_at the_module s ≡ p → any (eqb b) (let_some (let_some p none (λ r. r.parent)) [] (λ q. chain_from more the_module q)) ≡ true
+      above : (p : Option Scope) → scope_at the_module s ≡ p → any (eqb b) (let_some (let_some p None (λ r. r.parent)) [] (λ q. chain_from more the_module q)) ≡ true
           → ((q : ℕ) → any (eqb b) (chain_from more the_module q) ≡ true → Inside index body m q) → Inside index body m s
-      above none there h rest = absurd (false≢true h)
-      above (some scope) there h rest = up scope.parent refl h
+      above None there h rest = absurd (false≢true h)
+      above (Some scope) there h rest = up scope.parent refl h
         where
           up : (q : Option ℕ) → scope.parent ≡ q → any (eqb b) (let_some q [] (λ r. chain_from more the_module r)) ≡ true → Inside index body m s
-          up none is_parent k = absurd (false≢true k)
-          up (some q) is_parent k = below (ap (λ o. let_some o none (λ n. scope_at n s)) at ∙ there) is_parent (rest q k)
+          up None is_parent k = absurd (false≢true k)
+          up (Some q) is_parent k = below (ap (λ o. let_some o None (λ n. scope_at n s)) at ∙ there) is_parent (rest q k)
 
       by_test : (t : Bool) → eqb b s ≡ t → (t || any (eqb b) (let_some (parent the_module s) [] (λ q. chain_from more the_module q))) ≡ true
           → ((q : ℕ) → any (eqb b) (chain_from more the_module q) ≡ true → Inside index body m q) → Inside index body m s
@@ -390,8 +390,8 @@ unfolding function_test
 function_body index b h = of (scope_in index b.body.module_number b.body.scope_number) refl h
   where
     of : (o : Option Scope) → scope_in index b.body.module_number b.body.scope_number ≡ o → let_some o false (λ scope. is_function_kind scope.kind) ≡ true → IsBody index b.body
-    of none at k = absurd (false≢true k)
-    of (some scope) at k = record { scope = scope; found = at; is_function = function_kind scope.kind k }
+    of None at k = absurd (false≢true k)
+    of (Some scope) at k = record { scope = scope; found = at; is_function = function_kind scope.kind k }
 
 pub tested : (index : Index) (b : BodyScopes) (types : Types) → WellFormed index → body_test index b types ≡ true → Tested index b types
 unfolding body_test
@@ -420,7 +420,7 @@ module _ (index : Index) (b : BodyScopes) (types : Types) (good : Tested index b
   -- ---------------------------------------------------------------- inside
 
   -- the body's module, and the two parts of its test
-  body_module : (the_module : Module) × (module_at index b.body.module_number ≡ some the_module)
+  body_module : (the_module : Module) × (module_at index b.body.module_number ≡ Some the_module)
       × (every (has_body index b the_module) b.inside ≡ true)
       × (every_place (λ s scope. not (has_body index b the_module s) || among s b.inside) the_module.scopes ≡ true)
   unfolding inside_test
@@ -428,19 +428,19 @@ module _ (index : Index) (b : BodyScopes) (types : Types) (good : Tested index b
     where
       of : (o : Option Module) → module_at index b.body.module_number ≡ o
           → let_some o false (λ n. every (has_body index b n) b.inside && every_place (λ s scope. not (has_body index b n s) || among s b.inside) n.scopes) ≡ true
-          → (the_module : Module) × (module_at index b.body.module_number ≡ some the_module)
+          → (the_module : Module) × (module_at index b.body.module_number ≡ Some the_module)
           × (every (has_body index b the_module) b.inside ≡ true)
           × (every_place (λ s scope. not (has_body index b the_module s) || among s b.inside) the_module.scopes ≡ true)
-      of none at h = absurd (false≢true h)
-      of (some n) at h = (n, at, and_left (every (has_body index b n) b.inside) _ h, and_right (every (has_body index b n) b.inside) _ h)
+      of None at h = absurd (false≢true h)
+      of (Some n) at h = (n, at, and_left (every (has_body index b n) b.inside) _ h, and_right (every (has_body index b n) b.inside) _ h)
 
   inside_tested : {m s : ℕ} → Inside index b.body m s → in_body b m s ≡ true
   unfolding in_body
   inside_tested {m} {s} inside =
       let (the_module, at, listed_inside, inside_listed) = body_module in
-      let here : module_at index m ≡ some the_module = ap (module_at index) (inside_module index b.body inside) ∙ at in
+      let here : module_at index m ≡ Some the_module = ap (module_at index) (inside_module index b.body inside) ∙ at in
       let (scope, found) = inside_there index b.body good.is_body inside in
-      let there : scope_at the_module s ≡ some scope = ap (λ o. let_some o none (λ n. scope_at n s)) (sym here) ∙ found in
+      let there : scope_at the_module s ≡ Some scope = ap (λ o. let_some o None (λ n. scope_at n s)) (sym here) ∙ found in
       let is_in = under (has_body index b the_module s) (among s b.inside) (every_place_at (λ k x. not (has_body index b the_module k) || among k b.inside) the_module.scopes s scope inside_listed there) (inside_chain index b.body good.formed the_module here inside) in
       ap (λ t. t && among s b.inside) (ap (λ n. eqb n b.body.module_number) (inside_module index b.body inside) ∙ eqb_self b.body.module_number)
       ∙ is_in
@@ -468,19 +468,19 @@ module _ (index : Index) (b : BodyScopes) (types : Types) (good : Tested index b
 
   -- ---------------------------------------------------------------- each record
 
-  definition_tested : (test : ℕ → Definition → Bool) → every_definition index test ≡ true → (m d : ℕ) (x : Definition) → definition_in index m d ≡ some x → test m x ≡ true
+  definition_tested : (test : ℕ → Definition → Bool) → every_definition index test ≡ true → (m d : ℕ) (x : Definition) → definition_in index m d ≡ Some x → test m x ≡ true
   definition_tested test h m d x found =
-      let (the_module, at, there) = some_of (module_at index m) (λ n. get_elem? n.definitions d) x found in
+      let (the_module, at, there) = some_of (module_at index m) (λ n. slice_get n.definitions d) x found in
       every_at (test m) the_module.definitions d x (every_place_at (λ k n. every (test k) n.definitions) index.modules m the_module h at) there
 
-  expression_tested : (test : ℕ → ExpressionInfo → Bool) → every_expression index test ≡ true → (m e : ℕ) (x : ExpressionInfo) → expression_in index m e ≡ some x → test m x ≡ true
+  expression_tested : (test : ℕ → ExpressionInfo → Bool) → every_expression index test ≡ true → (m e : ℕ) (x : ExpressionInfo) → expression_in index m e ≡ Some x → test m x ≡ true
   expression_tested test h m e x found =
-      let (the_module, at, there) = some_of (module_at index m) (λ n. get_elem? n.expressions e) x found in
+      let (the_module, at, there) = some_of (module_at index m) (λ n. slice_get n.expressions e) x found in
       every_at (test m) the_module.expressions e x (every_place_at (λ k n. every (test k) n.expressions) index.modules m the_module h at) there
 
-  type_tested : (test : ℕ → ℕ → TypeExpr → Bool) → every_type index test ≡ true → (m t : ℕ) (x : TypeExpr) → type_in index m t ≡ some x → test m t x ≡ true
+  type_tested : (test : ℕ → ℕ → TypeExpr → Bool) → every_type index test ≡ true → (m t : ℕ) (x : TypeExpr) → type_in index m t ≡ Some x → test m t x ≡ true
   type_tested test h m t x found =
-      let (the_module, at, there) = some_of (module_at index m) (λ n. get_elem? n.types t) x found in
+      let (the_module, at, there) = some_of (module_at index m) (λ n. slice_get n.types t) x found in
       every_place_at (test m) the_module.types t x (every_place_at (λ k n. every_place (test k) n.types) index.modules m the_module h at) there
 
   -- a test of the outside ones, at one that is outside
@@ -555,41 +555,41 @@ module _ (index : Index) (b : BodyScopes) (types : Types) (good : Tested index b
   expression_about m e h = of (expression_in index m e) refl h
     where
       of : (o : Option ExpressionInfo) → expression_in index m e ≡ o → let_some o false (λ x. not (in_body b m x.scope)) ≡ true → OutsideExpression index b.body m e
-      of none at k = absurd (false≢true k)
-      of (some x) at k = record { expression = x; found = at; not_inside = not_inside k }
+      of None at k = absurd (false≢true k)
+      of (Some x) at k = record { expression = x; found = at; not_inside = not_inside k }
 
   definition_about : (m d : ℕ) → definition_there index b m d ≡ true → OutsideDefinition index b.body m d
   definition_about m d h = of (definition_in index m d) refl h
     where
       of : (o : Option Definition) → definition_in index m d ≡ o → let_some o false (λ x. not (in_body b m x.scope)) ≡ true → OutsideDefinition index b.body m d
-      of none at k = absurd (false≢true k)
-      of (some x) at k = record { definition = x; found = at; not_inside = not_inside k }
+      of None at k = absurd (false≢true k)
+      of (Some x) at k = record { definition = x; found = at; not_inside = not_inside k }
 
   scope_about : (m s : ℕ) → scope_there index b m s ≡ true → OutsideScope index b.body m s
   scope_about m s h = of (scope_in index m s) refl h
     where
       of : (o : Option Scope) → scope_in index m s ≡ o → let_some o false (λ x. not (in_body b m s)) ≡ true → OutsideScope index b.body m s
-      of none at k = absurd (false≢true k)
-      of (some x) at k = record { scope = x; found = at; not_inside = not_inside k }
+      of None at k = absurd (false≢true k)
+      of (Some x) at k = record { scope = x; found = at; not_inside = not_inside k }
 
   type_about : (m t : ℕ) → type_there index b m t ≡ true → Present (type_in index m t)
   type_about m t h = of (type_in index m t) refl h
     where
       of : (o : Option TypeExpr) → type_in index m t ≡ o → let_some o false (λ x. true) ≡ true → Present (type_in index m t)
-      of none at k = absurd (false≢true k)
-      of (some x) at k = (x, at)
+      of None at k = absurd (false≢true k)
+      of (Some x) at k = (x, at)
 
   uncovered_about : (m position : ℕ) → uncovered index b m position ≡ true → NotCoveredInside index b.body m position
   uncovered_about m position h e x found covering inside =
-      let (the_module, at, there) = some_of (module_at index m) (λ n. get_elem? n.expressions e) x found in
+      let (the_module, at, there) = some_of (module_at index m) (λ n. slice_get n.expressions e) x found in
       let test = true_at (λ (n : Module). every (λ y. not (in_body b m y.scope) || not (covers position y)) n.expressions) (module_at index m) the_module h at in
       let fails = under (in_body b m x.scope) (not (covers position x)) (every_at (λ y. not (in_body b m y.scope) || not (covers position y)) the_module.expressions e x test there) (inside_tested inside) in
       false≢true (sym (not-true (covers position x) fails) ∙ covering)
 
   pub about : (asked : Asked) → about_test index b asked ≡ true → AboutOutside index b.body asked
   unfolding about_test
-  about (Asked.expr m e none) h = expression_about m e h
-  about (Asked.expr m e (some t)) h =
+  about (Asked.expr m e None) h = expression_about m e h
+  about (Asked.expr m e (Some t)) h =
       (expression_about m e (and_left (expression_there index b m e) _ h), type_about m t (and_right (expression_there index b m e) _ h))
   about (Asked.def m d) h = definition_about m d h
   about (Asked.at m position) h = uncovered_about m position h
@@ -601,14 +601,14 @@ module _ (index : Index) (b : BodyScopes) (types : Types) (good : Tested index b
 pub seen_at : {A : Type 0} (records : Module → List A) (seen : OutsideModule → List (Option A)) (test : ℕ → ℕ → A → Bool) (index : Index) (b : BodyScopes) (types : Types)
     → ((m : ℕ) (the_module : Module) → seen (outside_module b types m the_module) ≡ shown (test m) (records the_module))
     → (m n : ℕ)
-    → let_some (get_elem? (outside_of index b types).modules m) none (λ o. shown_in (seen o) n)
-    ≡ let_some (let_some (module_at index m) none (λ the_module. get_elem? (records the_module) n)) none (when (test m n))
+    → let_some (slice_get (outside_of index b types).modules m) None (λ o. shown_in (seen o) n)
+    ≡ let_some (let_some (module_at index m) None (λ the_module. slice_get (records the_module) n)) None (when (test m n))
 unfolding outside_of
 seen_at {A} records seen test index b types is m n =
-    ap (λ r. let_some r none (λ o. shown_in (seen o) n)) (map_place_at (outside_module b types) index.modules m) ∙ of (module_at index m)
+    ap (λ r. let_some r None (λ o. shown_in (seen o) n)) (map_place_at (outside_module b types) index.modules m) ∙ of (module_at index m)
   where
     of : (o : Option Module)
-        → ◌≡◌ {A = Option A} (let_some (let_some o none (λ the_module. some (outside_module b types m the_module))) none (λ r. shown_in (seen r) n))
-        (let_some (let_some o none (λ the_module. get_elem? (records the_module) n)) none (when (test m n)))
-    of none = refl
-    of (some the_module) = ap (λ os. shown_in os n) (is m the_module) ∙ shown_at (test m) (records the_module) n
+        → ◌≡◌ {A = Option A} (let_some (let_some o None (λ the_module. Some (outside_module b types m the_module))) None (λ r. shown_in (seen r) n))
+        (let_some (let_some o None (λ the_module. slice_get (records the_module) n)) None (when (test m n)))
+    of None = refl
+    of (Some the_module) = ap (λ os. shown_in os n) (is m the_module) ∙ shown_at (test m) (records the_module) n

@@ -4,7 +4,7 @@ use Prim.Native.Nat.{ℕ}
 use mathlib.Core.Path.{◌≡◌, refl, sym, subst}
 use mathlib.Core.Bool.{Bool, true, false}
 use mathlib.Core.List.{Memᴰ}
-use mathlib.Core.Option.{Option, none, some}
+use Rattle.std.specs.Prelude.{Option, None, Some}
 use Rattle.model.specs.Common.{or_else}
 use Rattle.resolution.specs.TypeData.{TypeData}
 use Rattle.resolution.specs.Types.{Table}
@@ -16,37 +16,37 @@ use Rattle.model.specs.Links.{link}
 
 -- both find nothing, or both find the same x, of which P x holds
 pub data Found {A : Type 0} (P : A → Type 0) : Option A → Option A → Type 0 where
-  neither : Found P none none
-  both : (x : A) → P x → Found P (some x) (some x)
+  neither : Found P None None
+  both : (x : A) → P x → Found P (Some x) (Some x)
 
-pub found_self : {A : Type 0} (o : Option A) → Found (λ x. o ≡ some x) o o
-found_self none = neither
-found_self (some x) = both x refl
+pub found_self : {A : Type 0} (o : Option A) → Found (λ x. o ≡ Some x) o o
+found_self None = neither
+found_self (Some x) = both x refl
 
 -- one lookup, of which P is known
-pub found_one : {A : Type 0} (P : A → Type 0) (o : Option A) → ((x : A) → o ≡ some x → P x) → Found P o o
-found_one P none h = neither
-found_one P (some x) h = both x (h x refl)
+pub found_one : {A : Type 0} (P : A → Type 0) (o : Option A) → ((x : A) → o ≡ Some x → P x) → Found P o o
+found_one P None h = neither
+found_one P (Some x) h = both x (h x refl)
 
-pub found_by : {A : Type 0} (P : A → Type 0) {o o' : Option A} → o ≡ o' → ((x : A) → o ≡ some x → P x) → Found P o o'
+pub found_by : {A : Type 0} (P : A → Type 0) {o o' : Option A} → o ≡ o' → ((x : A) → o ≡ Some x → P x) → Found P o o'
 found_by P {o} e h = subst (λ r. Found P o r) e (found_one P o h)
 
 pub found_link : (o : Option ℕ) → Found (λ x. Memᴰ x (link o)) o o
-found_link none = neither
-found_link (some x) = both x (Memᴰ.head refl)
+found_link None = neither
+found_link (Some x) = both x (Memᴰ.head refl)
 
 -- each finds something, x and y, of which R x y holds
 pub data Each {A : Type 0} (R : A → A → Type 0) : Option A → Option A → Type 0 where
-  each : (x y : A) → R x y → Each R (some x) (some y)
+  each : (x y : A) → R x y → Each R (Some x) (Some y)
 
 -- both find nothing, or each something, of which R holds
 pub data Both {A : Type 0} (R : A → A → Type 0) : Option A → Option A → Type 0 where
-  nor : Both R none none
-  and : (x y : A) → R x y → Both R (some x) (some y)
+  nor : Both R None None
+  and : (x y : A) → R x y → Both R (Some x) (Some y)
 
-pub each_two : {A : Type 0} {R : A → A → Type 0} {o o' : Option A} {x y : A} → o ≡ some x → o' ≡ some y → R x y → Each R o o'
+pub each_two : {A : Type 0} {R : A → A → Type 0} {o o' : Option A} {x y : A} → o ≡ Some x → o' ≡ Some y → R x y → Each R o o'
 each_two {R = R} {o' = o'} {x = x} {y = y} e e' r =
-    subst (λ z. Each R z o') (sym e) (subst (λ z. Each R (some x) z) (sym e') (each x y r))
+    subst (λ z. Each R z o') (sym e) (subst (λ z. Each R (Some x) z) (sym e') (each x y r))
 
 pub found_or_else : {A : Type 0} {P : A → Type 0} {a a' b b' : Option A} → Found P a a' → Found P b b' → Found P (or_else a b) (or_else a' b')
 found_or_else neither g = g

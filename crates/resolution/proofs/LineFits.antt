@@ -4,9 +4,10 @@ use native.Mathlib.Omega.{arith}
 use mathlib.Core.Path.{◌≡◌, refl, sym, subst}
 use mathlib.Core.Bool.{Bool, true, false}
 use mathlib.Core.List.{[], ◌∷◌, ◌++◌}
-use mathlib.Core.Option.{Option, none, some}
+use Rattle.std.specs.Prelude.{Option, None, Some}
 use lib.Dec.{ltb, leb}
-use lib.ListN.{length, get_elem?, length-append}
+use Rattle.std.specs.Prelude.{slice_get}
+use lib.ListN.{length, length-append}
 use Rattle.std.specs.Prelude.{if◌then◌else◌}
 use Rattle.model.specs.Common.{Text, let_some, bytes}
 use Rattle.model.specs.Records.{Question, Index}
@@ -99,13 +100,13 @@ text_fits text = at_test (leb (length text) max_text) refl
     at_test true e = leb_le (length text) max_text e
     at_test false e = omega arith
 
-said_fits : (table : Table) (said : Said) → SaidOk table said → (v : Verdict) → said_verdict table said ≡ some v → Fits v
+said_fits : (table : Table) (said : Said) → SaidOk table said → (v : Verdict) → said_verdict table said ≡ Some v → Fits v
 unfolding said_verdict
 said_fits table (Said.type t) ok v e = subst Fits (some-injective e) (text_fits (type_text table t))
 said_fits table (Said.word word) ok v e = subst Fits (some-injective e) ok
 said_fits table Said.nothing ok v e = absurd (none≢some e)
 
-outcome_fits : (o : Outcome Said) → OutcomeOk SaidOk first_table o → (v : Verdict) → outcome_verdict o ≡ some v → Fits v
+outcome_fits : (o : Outcome Said) → OutcomeOk SaidOk first_table o → (v : Verdict) → outcome_verdict o ≡ Some v → Fits v
 unfolding outcome_verdict
 outcome_fits (answered said table) ok v e = said_fits table said ok.2 v e
 outcome_fits (refused n) ok v e = subst Fits (some-injective e) (few ok.1)
@@ -122,28 +123,28 @@ fields_fit (Verdict.refused n) h =
     omega arith
 
 -- what the line about it says, whatever is asked
-asked_verdict_fits : (index : Index) (asked : Asked) (line : Line) → asked_line index asked ≡ some line → Fits line.verdict
+asked_verdict_fits : (index : Index) (asked : Asked) (line : Line) → asked_line index asked ≡ Some line → Fits line.verdict
 unfolding asked_line verdict
 asked_verdict_fits index asked line e = go (outcome_verdict (resolve_asked index asked)) refl e
   where
-    go : (o : Option Verdict) → outcome_verdict (resolve_asked index asked) ≡ o → let_some o none (λ v. some (record { asked = asked; verdict = v })) ≡ some line → Fits line.verdict
-    go none h k = absurd (none≢some k)
-    go (some v) h k = subst (λ (l : Line). Fits l.verdict) (some-injective k) (outcome_fits (resolve_asked index asked) (asked_ok index asked) v h)
+    go : (o : Option Verdict) → outcome_verdict (resolve_asked index asked) ≡ o → let_some o None (λ v. Some (record { asked = asked; verdict = v })) ≡ Some line → Fits line.verdict
+    go None h k = absurd (none≢some k)
+    go (Some v) h k = subst (λ (l : Line). Fits l.verdict) (some-injective k) (outcome_fits (resolve_asked index asked) (asked_ok index asked) v h)
 
-pub verdict_fits : (index : Index) (question : Question) (number : ℕ) (line : Line) → get_elem? (question_lines index question) number ≡ some line → Fits line.verdict
+pub verdict_fits : (index : Index) (question : Question) (number : ℕ) (line : Line) → slice_get (question_lines index question) number ≡ Some line → Fits line.verdict
 unfolding question_lines
 verdict_fits index question number line e =
     let (about, mem, h) = collected_from (asked_line index) (question_asked index question) number e in asked_verdict_fits index about line h
 
 -- the line about what is asked, if its numbers fit
-asked_fits : (index : Index) (asked : Asked) → AskedNumbers asked → (line : Line) → asked_line index asked ≡ some line → length (line_text line) ≤ answer_bytes
+asked_fits : (index : Index) (asked : Asked) → AskedNumbers asked → (line : Line) → asked_line index asked ≡ Some line → length (line_text line) ≤ answer_bytes
 unfolding line_text
 asked_fits index asked numbers line e =
     let lead : length (asked_lead line.asked) ≤ 24 = subst (λ a. length (asked_lead a) ≤ 24) (sym (line_about index asked line e)) (lead_fits asked numbers) in
     omega (arith, append_le (asked_lead line.asked) (verdict_fields line.verdict) 24 4102 lead (fields_fit line.verdict (asked_verdict_fits index asked line e)))
 
-pub line_fits : (file : Text) (index : Index) (place : ℕ) (question : Question) → load file ≡ accepted index → get_elem? index.questions place ≡ some question
-    → (number : ℕ) (line : Line) → get_elem? (question_lines index question) number ≡ some line → length (line_text line) ≤ answer_bytes
+pub line_fits : (file : Text) (index : Index) (place : ℕ) (question : Question) → load file ≡ accepted index → slice_get index.questions place ≡ Some question
+    → (number : ℕ) (line : Line) → slice_get (question_lines index question) number ≡ Some line → length (line_text line) ≤ answer_bytes
 unfolding question_lines
 line_fits file index place question loaded asked number line e =
     let formed = loaded_well_formed file index loaded in

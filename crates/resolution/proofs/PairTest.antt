@@ -5,8 +5,8 @@ use Prim.Native.String.{String}
 use mathlib.Core.Path.{◌≡◌, refl, sym, ◌∙◌, ap}
 use mathlib.Core.Bool.{Bool, true, false, not, ◌&&◌, false≢true}
 use mathlib.Core.List.{List, []}
-use mathlib.Core.Option.{Option, none, some}
-use lib.ListN.{get_elem?}
+use Rattle.std.specs.Prelude.{Option, None, Some}
+use Rattle.std.specs.Prelude.{slice_get}
 use Rattle.model.specs.Common.{let_some, tabs, every}
 use Rattle.model.specs.Records.{Name, TypeExpr, Module, Question, Index}
 use Rattle.model.specs.Lookups.{module_at}
@@ -48,33 +48,33 @@ use Rattle.resolution.proofs.Secrecy.{demand_three}
 -- ------------------------------------------------------------------ what is outside in the one stands in the other
 
 module _ (A B : Index) (a b : BodyScopes) (types : Types) (A_tested : Tested A a types) (B_tested : Tested B b types) (same : outside_of A a types ≡ outside_of B b types) where
-  modules_same : (m : ℕ) (name : Name) → module_name A m ≡ some name → module_name B m ≡ some name
+  modules_same : (m : ℕ) (name : Name) → module_name A m ≡ Some name → module_name B m ≡ Some name
   unfolding outside_of
-  modules_same m name e = sym (named B b) ∙ ap (λ o. let_some (get_elem? o.modules m) none (λ r. some r.name)) (sym same) ∙ named A a ∙ e
+  modules_same m name e = sym (named B b) ∙ ap (λ o. let_some (slice_get o.modules m) None (λ r. Some r.name)) (sym same) ∙ named A a ∙ e
     where
-      named : (index : Index) (scopes : BodyScopes) → let_some (get_elem? (outside_of index scopes types).modules m) none (λ r. some r.name) ≡ module_name index m
-      named index scopes = ap (λ r. let_some r none (λ o. some o.name)) (map_place_at (outside_module scopes types) index.modules m) ∙ of (module_at index m)
+      named : (index : Index) (scopes : BodyScopes) → let_some (slice_get (outside_of index scopes types).modules m) None (λ r. Some r.name) ≡ module_name index m
+      named index scopes = ap (λ r. let_some r None (λ o. Some o.name)) (map_place_at (outside_module scopes types) index.modules m) ∙ of (module_at index m)
         where
           of : (o : Option Module)
-              → ◌≡◌ {A = Option Name} (let_some (let_some o none (λ the_module. some (outside_module scopes types m the_module))) none (λ r. some r.name))
-              (let_some o none (λ the_module. some the_module.name))
-          of none = refl
-          of (some the_module) = refl
+              → ◌≡◌ {A = Option Name} (let_some (let_some o None (λ the_module. Some (outside_module scopes types m the_module))) None (λ r. Some r.name))
+              (let_some o None (λ the_module. Some the_module.name))
+          of None = refl
+          of (Some the_module) = refl
 
   -- records of one kind, by what is shown of them
   record_same : {X : Type 0} (records : Module → List X) (seen : OutsideModule → List (Option X)) (A_test B_test : ℕ → ℕ → X → Bool)
       → ((m : ℕ) (the_module : Module) → seen (outside_module a types m the_module) ≡ shown (A_test m) (records the_module))
       → ((m : ℕ) (the_module : Module) → seen (outside_module b types m the_module) ≡ shown (B_test m) (records the_module))
-      → (m n : ℕ) (x : X) → let_some (module_at A m) none (λ the_module. get_elem? (records the_module) n) ≡ some x → A_test m n x ≡ true
-      → (let_some (module_at B m) none (λ the_module. get_elem? (records the_module) n) ≡ some x) × (B_test m n x ≡ true)
+      → (m n : ℕ) (x : X) → let_some (module_at A m) None (λ the_module. slice_get (records the_module) n) ≡ Some x → A_test m n x ≡ true
+      → (let_some (module_at B m) None (λ the_module. slice_get (records the_module) n) ≡ Some x) × (B_test m n x ≡ true)
   record_same records seen A_test B_test A_is B_is m n x found outside =
-      when_some (B_test m n) (let_some (module_at B m) none (λ the_module. get_elem? (records the_module) n)) x
+      when_some (B_test m n) (let_some (module_at B m) None (λ the_module. slice_get (records the_module) n)) x
       (sym (seen_at records seen B_test B b types B_is m n)
-      ∙ ap (λ o. let_some (get_elem? o.modules m) none (λ r. shown_in (seen r) n)) (sym same)
+      ∙ ap (λ o. let_some (slice_get o.modules m) None (λ r. shown_in (seen r) n)) (sym same)
       ∙ seen_at records seen A_test A a types A_is m n
-      ∙ some_when (A_test m n) (let_some (module_at A m) none (λ the_module. get_elem? (records the_module) n)) x found outside)
+      ∙ some_when (A_test m n) (let_some (module_at A m) None (λ the_module. slice_get (records the_module) n)) x found outside)
 
-  scopes_same : (m s : ℕ) (outside : OutsideScope A a.body m s) → (scope_in B m s ≡ some outside.scope) × (Inside B b.body m s → ⊥)
+  scopes_same : (m s : ℕ) (outside : OutsideScope A a.body m s) → (scope_in B m s ≡ Some outside.scope) × (Inside B b.body m s → ⊥)
   scopes_same m s outside =
       let (found, out) =
       record_same (λ r. r.scopes) (λ o. o.scopes) (λ k n x. not (in_body a k n)) (λ k n x. not (in_body b k n)) (λ k r. refl) (λ k r. refl) m s outside.scope outside.found
@@ -82,7 +82,7 @@ module _ (A B : Index) (a b : BodyScopes) (types : Types) (A_tested : Tested A a
       (found, not_inside B b types B_tested out)
 
   definitions_same : (m d : ℕ) (outside : OutsideDefinition A a.body m d)
-      → (definition_in B m d ≡ some outside.definition) × (Inside B b.body m outside.definition.scope → ⊥)
+      → (definition_in B m d ≡ Some outside.definition) × (Inside B b.body m outside.definition.scope → ⊥)
   definitions_same m d outside =
       let (found, out) =
       record_same (λ r. r.definitions) (λ o. o.definitions) (λ k n x. not (in_body a k x.scope)) (λ k n x. not (in_body b k x.scope)) (λ k r. refl) (λ k r. refl) m d outside.definition
@@ -91,7 +91,7 @@ module _ (A B : Index) (a b : BodyScopes) (types : Types) (A_tested : Tested A a
       (found, not_inside B b types B_tested out)
 
   expressions_same : (m e : ℕ) (outside : OutsideExpression A a.body m e)
-      → (expression_in B m e ≡ some outside.expression) × (Inside B b.body m outside.expression.scope → ⊥)
+      → (expression_in B m e ≡ Some outside.expression) × (Inside B b.body m outside.expression.scope → ⊥)
   expressions_same m e outside =
       let (found, out) =
       record_same (λ r. r.expressions) (λ o. o.expressions) (λ k n x. not (in_body a k x.scope)) (λ k n x. not (in_body b k x.scope)) (λ k r. refl) (λ k r. refl) m e outside.expression
@@ -100,7 +100,7 @@ module _ (A B : Index) (a b : BodyScopes) (types : Types) (A_tested : Tested A a
       (found, not_inside B b types B_tested out)
 
   module _ (asked : Asked) (named_listed : every (listed types (asked_module asked)) (asked_types asked) ≡ true) where
-    type_same : (m t : ℕ) (type : TypeExpr) → OutsideType A a.body asked m t → type_in A m t ≡ some type → type_in B m t ≡ some type
+    type_same : (m t : ℕ) (type : TypeExpr) → OutsideType A a.body asked m t → type_in A m t ≡ Some type → type_in B m t ≡ Some type
     type_same m t type outside found =
         let (there, out) =
         record_same (λ r. r.types) (λ o. o.types) (λ k n x. listed types k n) (λ k n x. listed types k n) (λ k r. refl) (λ k r. refl) m t type found
@@ -196,8 +196,8 @@ file_tested file body types h =
 pub pair_supposed : (pair : Pair) (question : Question) (asked : Asked) (first_place second_place : ℕ) → Agreeing pair → Asks question asked
     → asked_test (index_in pair.first_file) pair.first_body pair.types asked ≡ true
     → asked_test (index_in pair.second_file) pair.second_body pair.types asked ≡ true
-    → get_elem? (index_in pair.first_file).questions first_place ≡ some question
-    → get_elem? (index_in pair.second_file).questions second_place ≡ some question
+    → slice_get (index_in pair.first_file).questions first_place ≡ Some question
+    → slice_get (index_in pair.second_file).questions second_place ≡ Some question
     → FilesSupposedAsWorded (tabs pair.first_file) (tabs pair.second_file) first_place second_place question asked
 pair_supposed pair question asked first_place second_place agreeing asks first_test second_test first_asked second_asked =
     let A_tested = file_tested pair.first_file pair.first_body pair.types agreeing.first_test in
@@ -227,8 +227,8 @@ pair_supposed pair question asked first_place second_place agreeing asks first_t
 pub pair_same : (pair : Pair) (question : Question) (asked : Asked) (first_place second_place : ℕ) → Agreeing pair → Asks question asked
     → asked_test (index_in pair.first_file) pair.first_body pair.types asked ≡ true
     → asked_test (index_in pair.second_file) pair.second_body pair.types asked ≡ true
-    → get_elem? (index_in pair.first_file).questions first_place ≡ some question
-    → get_elem? (index_in pair.second_file).questions second_place ≡ some question
+    → slice_get (index_in pair.first_file).questions first_place ≡ Some question
+    → slice_get (index_in pair.second_file).questions second_place ≡ Some question
     → SameLine (tabs pair.first_file) (tabs pair.second_file) first_place second_place question asked
 pair_same pair question asked first_place second_place agreeing asks first_test second_test first_asked second_asked =
     demand_three (tabs pair.first_file) (tabs pair.second_file) first_place second_place question asked

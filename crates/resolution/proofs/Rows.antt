@@ -3,9 +3,10 @@ use Prim.Native.Nat.{ℕ, zero, suc}
 use mathlib.Core.Path.{◌≡◌, refl, sym, ◌∙◌, ap, subst}
 use mathlib.Core.Bool.{true, false, ◌&&◌}
 use mathlib.Core.List.{List, [], ◌∷◌, map}
-use mathlib.Core.Option.{none, some}
+use Rattle.std.specs.Prelude.{None, Some}
 use lib.Dec.{T, eqb}
-use lib.ListN.{get_or, drop, get_elem?}
+use Rattle.std.specs.Prelude.{slice_get}
+use lib.ListN.{get_or, drop}
 use Rattle.model.specs.Common.{let_some, eq_numbers}
 use Rattle.model.specs.Records.{Name, NameWithType}
 use Rattle.model.proofs.Tests.{and_left, and_right, eqb_sound, eqb_self, eq_numbers_sound, eq_numbers_self}
@@ -88,13 +89,13 @@ eq_type_self a = λ i. (eqb_self (kind_number a) i && eq_numbers_self (row_numbe
 
 -- ------------------------------------------------------------------ what `find_type` finds
 
-pub find_type_some : (table : Table) (row : TypeData) (n : ℕ) → find_type table row ≡ some n → get_elem? table n ≡ some row
+pub find_type_some : (table : Table) (row : TypeData) (n : ℕ) → find_type table row ≡ Some n → slice_get table n ≡ Some row
 unfolding find_type
 find_type_some table row n e =
-    let (other, here, same) = passes_some (get_elem? table n) (eq_type row) (first_passes (eq_type row) table n e) in
-    here ∙ ap some (sym (eq_type_sound row other same))
+    let (other, here, same) = passes_some (slice_get table n) (eq_type row) (first_passes (eq_type row) table n e) in
+    here ∙ ap Some (sym (eq_type_sound row other same))
 
-pub find_type_none : (table : Table) (row : TypeData) → find_type table row ≡ none → (n : ℕ) → get_elem? table n ≡ some row → ⊥
+pub find_type_none : (table : Table) (row : TypeData) → find_type table row ≡ None → (n : ℕ) → slice_get table n ≡ Some row → ⊥
 unfolding find_type
 find_type_none table row e n here =
     subst T

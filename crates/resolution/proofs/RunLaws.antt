@@ -3,8 +3,9 @@ use Prim.Native.Nat.{ℕ, suc, zero}
 use mathlib.Core.Path.{◌≡◌, refl, sym, ◌∙◌, ap}
 use mathlib.Core.Bool.{true, false}
 use mathlib.Core.List.{List, [], ◌∷◌, ◌++◌}
-use mathlib.Core.Option.{none, some}
-use lib.ListN.{length, get_or, get_elem?, drop}
+use Rattle.std.specs.Prelude.{None, Some}
+use Rattle.std.specs.Prelude.{slice_get}
+use lib.ListN.{length, get_or, drop}
 use Rattle.std.specs.Prelude.{if◌then◌else◌}
 use Rattle.model.specs.Common.{let_some}
 use Rattle.model.specs.Records.{Index}
@@ -71,17 +72,17 @@ run_bind h (look k) f table = run_bind h (k table) f table
 
 -- ------------------------------------------------------------------ entering a row
 
-pub enter_found : (row : TypeData) (table : Table) (t : ℕ) → find_type table row ≡ some t → enter_type row table ≡ answered t table
+pub enter_found : (row : TypeData) (table : Table) (t : ℕ) → find_type table row ≡ Some t → enter_type row table ≡ answered t table
 unfolding enter_type
 enter_found row table t e = ap (λ o. let_some o (if has_room table row then answered (length table) (table ++ (row ∷ [])) else refused 9) (λ u. answered u table)) e
 
-pub enter_new : (row : TypeData) (table : Table) → find_type table row ≡ none → has_room table row ≡ true
+pub enter_new : (row : TypeData) (table : Table) → find_type table row ≡ None → has_room table row ≡ true
     → enter_type row table ≡ answered (length table) (table ++ (row ∷ []))
 unfolding enter_type
 enter_new row table e room =
     λ i. let_some (e i) (if room i then answered (length table) (table ++ (row ∷ [])) else refused 9) (λ u. answered u table)
 
-pub enter_no_room : (row : TypeData) (table : Table) → find_type table row ≡ none → has_room table row ≡ false → enter_type row table ≡ refused 9
+pub enter_no_room : (row : TypeData) (table : Table) → find_type table row ≡ None → has_room table row ≡ false → enter_type row table ≡ refused 9
 unfolding enter_type
 enter_no_room row table e room =
     λ i. let_some (e i) (if room i then answered (length table) (table ++ (row ∷ [])) else refused 9) (λ u. answered u table)
@@ -112,7 +113,7 @@ demand_runs free index open_demands d table e =
 demand_of : ℕ → ℕ → ℕ → List ℕ → Demand
 demand_of zero m t rest = Demand.type m t (get_or rest 0 0)
 demand_of (suc zero) m d rest = Demand.definition m d
-demand_of (suc (suc zero)) m e rest = Demand.expression m e (get_elem? rest 0)
+demand_of (suc (suc zero)) m e rest = Demand.expression m e (slice_get rest 0)
 demand_of (suc (suc (suc zero))) m d rest = Demand.struct m d
 demand_of (suc (suc (suc (suc k)))) m d rest = Demand.signature m d
 
@@ -124,8 +125,8 @@ demand_back : (d : Demand) → demand_from (demand_key d) ≡ d
 unfolding demand_from demand_of demand_key
 demand_back (Demand.type m t s) = refl
 demand_back (Demand.definition m d) = refl
-demand_back (Demand.expression m e none) = refl
-demand_back (Demand.expression m e (some t)) = refl
+demand_back (Demand.expression m e None) = refl
+demand_back (Demand.expression m e (Some t)) = refl
 demand_back (Demand.struct m d) = refl
 demand_back (Demand.signature m d) = refl
 

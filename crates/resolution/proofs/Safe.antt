@@ -3,7 +3,7 @@ use Prim.Native.Nat.{ℕ, ◌<◌}
 use mathlib.Core.Path.{◌≡◌, refl}
 use mathlib.Core.Bool.{Bool, true, false}
 use mathlib.Core.List.{Memᴰ}
-use mathlib.Core.Option.{Option, none, some}
+use Rattle.std.specs.Prelude.{Option, None, Some}
 use lib.Dec.{lit≤}
 use Rattle.resolution.specs.TypeData.{TypeData}
 use Rattle.resolution.specs.Types.{Table}
@@ -72,11 +72,11 @@ safe_bind ok (safe_enter row inner rest) g =
 safe_bind {f = f} ok (safe_look steady rest) g = safe_look (λ after x i. steady after x i >>= f) (safe_bind ok rest g)
 
 module _ {A B : Type 0} {Good : Table → B → Type 0} {table : Table} where
-  pub safe_let_some : (o : Option A) {p : Program B} {f : A → Program B} → Safe Good table p → ((x : A) → o ≡ some x → Safe Good table (f x))
+  pub safe_let_some : (o : Option A) {p : Program B} {f : A → Program B} → Safe Good table p → ((x : A) → o ≡ Some x → Safe Good table (f x))
       → Safe Good table (let_some o p f)
   unfolding let_some
-  safe_let_some none h g = h
-  safe_let_some (some x) h g = g x refl
+  safe_let_some None h g = h
+  safe_let_some (Some x) h g = g x refl
 
 pub safe_if : {A : Type 0} {Good : Table → A → Type 0} {table : Table} (b : Bool) {p q : Program A} → Safe Good table p → Safe Good table q
     → Safe Good table (when b then p else q)

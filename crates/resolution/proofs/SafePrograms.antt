@@ -4,9 +4,10 @@ use mathlib.Core.Path.{refl}
 use mathlib.Core.Bool.{Bool, true, false}
 use mathlib.Core.List.Memᴰ
 use mathlib.Core.List.{List, [], ◌∷◌}
-use mathlib.Core.Option.{Option, none, some}
+use Rattle.std.specs.Prelude.{Option, None, Some}
 use lib.Dec.{eqb, lit<, lit≤}
-use lib.ListN.{length, get_elem?}
+use Rattle.std.specs.Prelude.{slice_get}
+use lib.ListN.{length}
 use Rattle.model.specs.Records.{Name, TypeExpr, DefinitionKind, Origin, UnaryOp, BinaryOp, Expression, ExpressionInfo, Module, Index}
 use Rattle.model.specs.Links.{field_types}
 use Rattle.resolution.specs.TypeData.{TypeData}
@@ -94,16 +95,16 @@ infer_arguments_safe : {table : Table} → TableOk table → (m : ℕ) (params :
 unfolding infer_arguments
 infer_arguments_safe ok m params h index [] = safe_done tt
 infer_arguments_safe {table} ok m params h index (arg ∷ args) =
-    safe_bind ok (infer_only_safe ok m arg (get_elem? params index) (at_below table params index h)) λ after ok₁ x u good.
+    safe_bind ok (infer_only_safe ok m arg (slice_get params index) (at_below table params index h)) λ after ok₁ x u good.
     infer_arguments_safe ok₁ m params (all_later params x h) (suc index) args
 
 pub infer_elements_safe : {table : Table} → TableOk table → (m : ℕ) (contexts : List ℕ) → AllBelow table contexts → (index : ℕ) (elements : List (Option ℕ))
     → Safe AllBelow table (infer_elements m contexts index elements)
 unfolding infer_elements
 infer_elements_safe {table} ok m contexts h index [] = safe_done (all_nil table)
-infer_elements_safe ok m contexts h index (none ∷ elements) = infer_elements_safe ok m contexts h (suc index) elements
-infer_elements_safe {table} ok m contexts h index (some element ∷ elements) =
-    safe_bind ok (safe_asked (Demand.expression m element (get_elem? contexts index)) (at_below table contexts index h)) λ after ok₁ x t good.
+infer_elements_safe ok m contexts h index (None ∷ elements) = infer_elements_safe ok m contexts h (suc index) elements
+infer_elements_safe {table} ok m contexts h index (Some element ∷ elements) =
+    safe_bind ok (safe_asked (Demand.expression m element (slice_get contexts index)) (at_below table contexts index h)) λ after ok₁ x t good.
     safe_bind ok₁ (infer_elements_safe ok₁ m contexts (all_later contexts x h) (suc index) elements) λ last ok₂ y ts goods.
     safe_done (all_cons last t ts (extends_below y t good) goods)
 
@@ -111,9 +112,9 @@ all_same_type_safe : {table : Table} → TableOk table → (m element_type : ℕ
     → Safe (λ tb u. Unit {0}) table (all_same_type m element_type elements)
 unfolding all_same_type
 all_same_type_safe ok m element_type h [] = safe_done tt
-all_same_type_safe ok m element_type h (none ∷ elements) = safe_done tt
-all_same_type_safe ok m element_type h (some element ∷ elements) =
-    safe_bind ok (safe_asked (Demand.expression m element (some element_type)) h) λ after ok₁ x t good.
+all_same_type_safe ok m element_type h (None ∷ elements) = safe_done tt
+all_same_type_safe ok m element_type h (Some element ∷ elements) =
+    safe_bind ok (safe_asked (Demand.expression m element (Some element_type)) h) λ after ok₁ x t good.
     let below = extends_below x element_type h in
     safe_look
     (λ last y i. when compatible_later ok₁ y t element_type good below i then all_same_type m element_type elements else done false)
@@ -165,22 +166,22 @@ type_program_safe ok index m t s =
 
 variable_safe : {table : Table} → TableOk table → (m s : ℕ) (t e : Option ℕ) → Safe Below table (resolve_variable_type m s t e)
 unfolding resolve_variable_type
-variable_safe ok m s (some t) e = safe_asked (Demand.type m t s) tt
-variable_safe ok m s none (some e) = safe_asked (Demand.expression m e none) tt
-variable_safe ok m s none none = known ok unknown (lit< tt)
+variable_safe ok m s (Some t) e = safe_asked (Demand.type m t s) tt
+variable_safe ok m s None (Some e) = safe_asked (Demand.expression m e None) tt
+variable_safe ok m s None None = known ok unknown (lit< tt)
 
 let_safe : {table : Table} → TableOk table → (m s : ℕ) (t e v : Option ℕ) (path : List ℕ) → Safe Below table (let_type m s t e v path)
 unfolding let_type
-let_safe ok m s t e none path = variable_safe ok m s t e
-let_safe ok m s t e (some v) path =
-    safe_bind ok (safe_asked (Demand.expression m v none) tt) λ after ok₁ x current good.
+let_safe ok m s t e None path = variable_safe ok m s t e
+let_safe ok m s t e (Some v) path =
+    safe_bind ok (safe_asked (Demand.expression m v None) tt) λ after ok₁ x current good.
     safe_look (λ last y i. done (navigate_later ok₁ y path current good i)) (safe_done (navigate_below ok₁ path current good))
 
 const_safe : {table : Table} → TableOk table → (m s : ℕ) (t e : Option ℕ) → Safe Below table (const_type m s t e)
 unfolding const_type
-const_safe ok m s (some t) e = safe_asked (Demand.type m t s) tt
-const_safe ok m s none (some e) = safe_asked (Demand.expression m e none) tt
-const_safe ok m s none none = safe_error ok
+const_safe ok m s (Some t) e = safe_asked (Demand.type m t s) tt
+const_safe ok m s None (Some e) = safe_asked (Demand.expression m e None) tt
+const_safe ok m s None None = safe_error ok
 
 use_safe : {table : Table} → TableOk table → (index : Index) (imported_module item : Name) → Safe Below table (use_type index imported_module item)
 unfolding use_type
@@ -257,16 +258,16 @@ signature_program_safe ok index m d =
 
 param_safe : {table : Table} → TableOk table → (signature : Option ℕ) → OptionBelow table signature → (index : ℕ) → Safe OptionBelow table (signature_param signature index)
 unfolding signature_param
-param_safe ok none h index = safe_done tt
-param_safe ok (some t) h index =
+param_safe ok None h index = safe_done tt
+param_safe ok (Some t) h index =
     safe_bind ok (safe_row ok t h) λ after ok₁ x row good.
     safe_let_some _ (safe_done tt) λ signature e.
     safe_done (at_below after signature.params index (λ u named. function_below ok₁ row signature e good u (Memᴰ.tail named)))
 
 return_type_safe : {table : Table} → TableOk table → (signature : Option ℕ) → OptionBelow table signature → Safe OptionBelow table (signature_return_type signature)
 unfolding signature_return_type
-return_type_safe ok none h = safe_done tt
-return_type_safe ok (some t) h =
+return_type_safe ok None h = safe_done tt
+return_type_safe ok (Some t) h =
     safe_bind ok (safe_row ok t h) λ after ok₁ x row good.
     safe_let_some _ (safe_done tt) λ signature e.
     safe_done (function_below ok₁ row signature e good signature.return_type (Memᴰ.head refl))
@@ -276,7 +277,7 @@ module _ {table : Table} (ok : TableOk table) (m : ℕ) (the_module : Module) (i
   unfolding assignment_context
   assignment_safe lhs =
       safe_if _
-      (safe_bind ok (safe_asked (Demand.expression m lhs none) tt) λ after ok₁ x t good. safe_done good)
+      (safe_bind ok (safe_asked (Demand.expression m lhs None) tt) λ after ok₁ x t good. safe_done good)
       (safe_done tt)
 
   argument_safe : (callee index : ℕ) → Safe OptionBelow table (argument_context m the_module callee index)
@@ -314,8 +315,8 @@ module _ {table : Table} (ok : TableOk table) (m : ℕ) (the_module : Module) (i
 
   context_safe : (given : Option ℕ) → OptionBelow table given → Safe OptionBelow table (context_expected m the_module info given)
   unfolding context_expected
-  context_safe (some t) h = safe_done h
-  context_safe none h = origin_safe info.origin
+  context_safe (Some t) h = safe_done h
+  context_safe None h = origin_safe info.origin
 
   -- ---------------------------------------------------------------- expression_semantic_type: the nodes
 
@@ -353,7 +354,7 @@ module _ {table : Table} (ok : TableOk table) (m : ℕ) (the_module : Module) (i
   unfolding new_type row_types
   new_safe t count =
       safe_bind ok
-      (infer_only_safe ok m count (some felt) (base_below ok felt (lit< tt)))
+      (infer_only_safe ok m count (Some felt) (base_below ok felt (lit< tt)))
       λ after ok₁ x u good.
       safe_bind ok₁ (safe_asked (Demand.type m t info.scope) tt) λ last ok₂ y element good₂.
       safe_entered (TypeData.Pointer element) (all_cons last element [] good₂ (all_nil last))
@@ -372,17 +373,17 @@ module _ {table : Table} (ok : TableOk table) (m : ℕ) (the_module : Module) (i
       safe_if
       (right_first the_module op left_id right_id)
       (safe_bind ok (safe_asked (Demand.expression m right_id context) h) λ after ok₁ x right_type good.
-      safe_bind ok₁ (safe_asked (Demand.expression m left_id (some right_type)) good) λ last ok₂ y left_type good₂.
+      safe_bind ok₁ (safe_asked (Demand.expression m left_id (Some right_type)) good) λ last ok₂ y left_type good₂.
       safe_binary ok₂ op left_type right_type good₂ (extends_below y right_type good))
       (safe_bind ok (safe_asked (Demand.expression m left_id context) h) λ after ok₁ x left_type good.
-      safe_bind ok₁ (safe_asked (Demand.expression m right_id (some left_type)) good) λ last ok₂ y right_type good₂.
+      safe_bind ok₁ (safe_asked (Demand.expression m right_id (Some left_type)) good) λ last ok₂ y right_type good₂.
       safe_binary ok₂ op left_type right_type (extends_below y left_type good) good₂)
 
   member_safe : (object : Option ℕ) (field : Name) → Safe Below table (member_type m object field)
   unfolding member_type
   member_safe object field =
       safe_let_some _ (safe_error ok) λ e e'.
-      safe_bind ok (safe_asked (Demand.expression m e none) tt) λ after ok₁ x object_type good.
+      safe_bind ok (safe_asked (Demand.expression m e None) tt) λ after ok₁ x object_type good.
       safe_bind ok₁ (safe_row ok₁ object_type good) λ last ok₂ y row goods.
       safe_let_some _ (safe_error ok₂) λ fields is_struct.
       safe_let_some _ (safe_error ok₂) λ t has_field.
@@ -393,7 +394,7 @@ module _ {table : Table} (ok : TableOk table) (m : ℕ) (the_module : Module) (i
   call_safe callee args =
       safe_if _ (known ok unit (lit< tt))
       (safe_let_some _ (safe_error ok) λ e e'.
-      safe_bind ok (safe_asked (Demand.expression m e none) tt) λ after ok₁ x callee_type good.
+      safe_bind ok (safe_asked (Demand.expression m e None) tt) λ after ok₁ x callee_type good.
       safe_bind ok₁ (safe_row ok₁ callee_type good) λ later ok₂ y row goods.
       safe_let_some _ (safe_error ok₂) λ signature is_function.
       let below = function_below ok₂ row signature is_function goods in
@@ -412,9 +413,9 @@ module _ {table : Table} (ok : TableOk table) (m : ℕ) (the_module : Module) (i
   unfolding index_type
   index_safe array index =
       safe_let_some _ (safe_error ok) λ array_id e.
-      safe_bind ok (safe_asked (Demand.expression m array_id none) tt) λ after ok₁ x array_type good.
+      safe_bind ok (safe_asked (Demand.expression m array_id None) tt) λ after ok₁ x array_type good.
       safe_bind ok₁
-      (infer_only_safe ok₁ m index (some felt) (base_below ok₁ felt (lit< tt)))
+      (infer_only_safe ok₁ m index (Some felt) (base_below ok₁ felt (lit< tt)))
       λ later ok₂ y u good₂.
       safe_bind ok₂ (safe_row ok₂ array_type (extends_below y array_type good)) λ last ok₃ z row goods.
       safe_let_some _
@@ -435,7 +436,7 @@ module _ {table : Table} (ok : TableOk table) (m : ℕ) (the_module : Module) (i
   unfolding tuple_index_type
   tuple_index_safe tuple index =
       safe_let_some _ safe_refuse λ tuple_id e.
-      safe_bind ok (safe_asked (Demand.expression m tuple_id none) tt) λ after ok₁ x t good.
+      safe_bind ok (safe_asked (Demand.expression m tuple_id None) tt) λ after ok₁ x t good.
       safe_bind ok₁ (safe_row ok₁ t good) λ last ok₂ y row goods.
       safe_let_some _ (safe_error ok₂) λ elements is_tuple.
       safe_let_some _ (safe_error ok₂) λ element e'.
@@ -540,18 +541,18 @@ in_context_safe ok index m e t =
     safe_let_some _ (safe_error ok) λ the_module e'.
     safe_let_some _ (safe_error ok) λ info e''.
     safe_bind ok (safe_asked (Demand.type m t info.scope) tt) λ after ok₁ x context good.
-    safe_asked (Demand.expression m e (some context)) good
+    safe_asked (Demand.expression m e (Some context)) good
 
 at_safe : {table : Table} → TableOk table → (index : Index) (m position : ℕ) → Safe SaidOk table (at_program index m position)
 unfolding at_program says_at
 at_safe ok index m position =
     safe_let_some _ (safe_done (lit≤ tt)) λ the_module e'.
-    safe_let_some _ (safe_done (lit≤ tt)) λ e e''. says_type_safe ok (safe_asked (Demand.expression m e none) tt)
+    safe_let_some _ (safe_done (lit≤ tt)) λ e e''. says_type_safe ok (safe_asked (Demand.expression m e None) tt)
 
 pub asked_safe : {table : Table} → TableOk table → (index : Index) (asked : Asked) → Safe SaidOk table (asked_program index asked)
 unfolding asked_program
-asked_safe ok index (Asked.expr m e none) = says_type_safe ok (safe_asked (Demand.expression m e none) tt)
-asked_safe ok index (Asked.expr m e (some t)) = says_type_safe ok (in_context_safe ok index m e t)
+asked_safe ok index (Asked.expr m e None) = says_type_safe ok (safe_asked (Demand.expression m e None) tt)
+asked_safe ok index (Asked.expr m e (Some t)) = says_type_safe ok (in_context_safe ok index m e t)
 asked_safe ok index (Asked.def m d) = says_type_safe ok (safe_asked (Demand.definition m d) tt)
 asked_safe ok index (Asked.type m t s) = says_type_safe ok (safe_asked (Demand.type m t s) tt)
 asked_safe ok index (Asked.at m position) = at_safe ok index m position

@@ -5,9 +5,10 @@ use mathlib.Core.Path.{◌≡◌, refl, sym, ◌∙◌, ap, subst}
 use mathlib.Core.Bool.{Bool, true, false, ◌&&◌}
 use mathlib.Core.List.Memᴰ
 use mathlib.Core.List.{List, [], ◌∷◌, map, Memᴰ}
-use mathlib.Core.Option.{Option, none, some}
+use Rattle.std.specs.Prelude.{Option, None, Some}
 use lib.Dec.{T, eqb, ltb, ltb→lt, lit<}
-use lib.ListN.{length, get_elem?}
+use Rattle.std.specs.Prelude.{slice_get}
+use lib.ListN.{length}
 use Rattle.std.specs.Prelude.{if◌then◌else◌}
 use Rattle.model.specs.Common.{let_some, eq_numbers, bytes}
 use Rattle.model.specs.Records.{Name, NameWithType, UnaryOp, BinaryOp}
@@ -38,13 +39,13 @@ pub all_later : {table after : Table} (ts : List ℕ) → Extends table after �
 all_later ts x h t named = extends_below x t (h t named)
 
 pub option_later : {table after : Table} (o : Option ℕ) → Extends table after → OptionBelow table o → OptionBelow after o
-option_later none x h = tt
-option_later (some t) x h = extends_below x t h
+option_later None x h = tt
+option_later (Some t) x h = extends_below x t h
 
-pub option_some : (table : Table) {o : Option ℕ} {t : ℕ} → o ≡ some t → OptionBelow table o → Below table t
+pub option_some : (table : Table) {o : Option ℕ} {t : ℕ} → o ≡ Some t → OptionBelow table o → Below table t
 option_some table e h = subst (OptionBelow table) e h
 
-pub at_below : (table : Table) (ts : List ℕ) (n : ℕ) → AllBelow table ts → OptionBelow table (get_elem? ts n)
+pub at_below : (table : Table) (ts : List ℕ) (n : ℕ) → AllBelow table ts → OptionBelow table (slice_get ts n)
 at_below table [] n h = tt
 at_below table (t ∷ ts) zero h = h t (Memᴰ.head refl)
 at_below table (t ∷ ts) (suc n) h = at_below table ts n (λ u named. h u (Memᴰ.tail named))
@@ -55,7 +56,7 @@ module _ {table : Table} (ok : TableOk table) where
   pub row_below : (t : ℕ) → AllBelow table (row_types (data_of table t))
   row_below t u named = inner_below ok t u named
 
-  pub tuple_below : (row : TypeData) (ts : List ℕ) → as_tuple row ≡ some ts → AllBelow table (row_types row) → AllBelow table ts
+  pub tuple_below : (row : TypeData) (ts : List ℕ) → as_tuple row ≡ Some ts → AllBelow table (row_types row) → AllBelow table ts
   unfolding as_tuple row_types
   tuple_below TypeData.Felt ts e h = absurd (none≢some e)
   tuple_below TypeData.Bool ts e h = absurd (none≢some e)
@@ -68,7 +69,7 @@ module _ {table : Table} (ok : TableOk table) where
   tuple_below (TypeData.Struct m d fields) ts e h = absurd (none≢some e)
   tuple_below (TypeData.Function m d params t) ts e h = absurd (none≢some e)
 
-  pub pointer_below : (row : TypeData) (t : ℕ) → as_pointer row ≡ some t → AllBelow table (row_types row) → Below table t
+  pub pointer_below : (row : TypeData) (t : ℕ) → as_pointer row ≡ Some t → AllBelow table (row_types row) → Below table t
   unfolding as_pointer row_types
   pointer_below TypeData.Felt t e h = absurd (none≢some e)
   pointer_below TypeData.Bool t e h = absurd (none≢some e)
@@ -81,7 +82,7 @@ module _ {table : Table} (ok : TableOk table) where
   pointer_below (TypeData.Struct m d fields) t e h = absurd (none≢some e)
   pointer_below (TypeData.Function m d params u) t e h = absurd (none≢some e)
 
-  pub array_below : (row : TypeData) (array : Array) → as_array row ≡ some array → AllBelow table (row_types row) → Below table array.element
+  pub array_below : (row : TypeData) (array : Array) → as_array row ≡ Some array → AllBelow table (row_types row) → Below table array.element
   unfolding as_array row_types
   array_below TypeData.Felt array e h = absurd (none≢some e)
   array_below TypeData.Bool array e h = absurd (none≢some e)
@@ -97,7 +98,7 @@ module _ {table : Table} (ok : TableOk table) where
   abbrev pub FieldsBelow : List NameWithType → Type 0
   FieldsBelow fields = AllBelow table (map (λ field. field.type) fields)
 
-  pub struct_below : (row : TypeData) (fields : List NameWithType) → as_struct row ≡ some fields → AllBelow table (row_types row) → FieldsBelow fields
+  pub struct_below : (row : TypeData) (fields : List NameWithType) → as_struct row ≡ Some fields → AllBelow table (row_types row) → FieldsBelow fields
   unfolding as_struct row_types
   struct_below TypeData.Felt fields e h = absurd (none≢some e)
   struct_below TypeData.Bool fields e h = absurd (none≢some e)
@@ -113,7 +114,7 @@ module _ {table : Table} (ok : TableOk table) where
   abbrev pub SignatureBelow : Signature → Type 0
   SignatureBelow signature = AllBelow table (signature.return_type ∷ signature.params)
 
-  pub function_below : (row : TypeData) (signature : Signature) → as_function row ≡ some signature → AllBelow table (row_types row) → SignatureBelow signature
+  pub function_below : (row : TypeData) (signature : Signature) → as_function row ≡ Some signature → AllBelow table (row_types row) → SignatureBelow signature
   unfolding as_function row_types
   function_below TypeData.Felt signature e h = absurd (none≢some e)
   function_below TypeData.Bool signature e h = absurd (none≢some e)
@@ -131,7 +132,7 @@ module _ {table : Table} (ok : TableOk table) where
   field_below [] name h = tt
   field_below (field ∷ fields) name h = go (eq_numbers field.name name) (field_below fields name (λ u named. h u (Memᴰ.tail named)))
     where
-      go : (b : Bool) → OptionBelow table (field_type fields name) → OptionBelow table (if b then some field.type else field_type fields name)
+      go : (b : Bool) → OptionBelow table (field_type fields name) → OptionBelow table (if b then Some field.type else field_type fields name)
       go true rest = h field.type (Memᴰ.head refl)
       go false rest = rest
 
@@ -150,14 +151,14 @@ T_right true b h = h
 T_right false b h = absurd h
 
 -- what holds of both ends of a lookup holds of the lookup
-choice : {A B : Type 0} (P : B → Type 0) (o : Option A) (b : B) (f : A → B) → P b → ((x : A) → o ≡ some x → P (f x)) → P (let_some o b f)
-choice P none b f h g = h
-choice P (some x) b f h g = g x refl
+choice : {A B : Type 0} (P : B → Type 0) (o : Option A) (b : B) (f : A → B) → P b → ((x : A) → o ≡ Some x → P (f x)) → P (let_some o b f)
+choice P None b f h g = h
+choice P (Some x) b f h g = g x refl
 
 -- two lookups that go on alike
-let_some_same : {A B : Type 0} (o : Option A) (b : B) {f g : A → B} → ((x : A) → o ≡ some x → f x ≡ g x) → let_some o b f ≡ let_some o b g
-let_some_same none b h = refl
-let_some_same (some x) b h = h x refl
+let_some_same : {A B : Type 0} (o : Option A) (b : B) {f g : A → B} → ((x : A) → o ≡ Some x → f x ≡ g x) → let_some o b f ≡ let_some o b g
+let_some_same None b h = refl
+let_some_same (Some x) b h = h x refl
 
 either : {B : Type 0} (P : B → Type 0) (c : Bool) (a b : B) → P a → P b → P (if c then a else b)
 either P true a b h g = h
@@ -172,38 +173,38 @@ module _ {table : Table} (ok : TableOk table) where
   navigate_below [] current h = h
   navigate_below (index ∷ path) current h =
       choice (Below table) (as_tuple (data_of table current)) error _ error_below λ elements e.
-      choice (Below table) (get_elem? elements index) error _ error_below λ t e'.
+      choice (Below table) (slice_get elements index) error _ error_below λ t e'.
       navigate_below path t (option_some table e' (at_below table elements index (tuple_below ok (data_of table current) elements e (row_below ok current))))
 
   pub numeric_type_below : (t : ℕ) → Below table t → OptionBelow table (numeric table t)
   unfolding numeric
-  numeric_type_below t h = either (OptionBelow table) (is_u32_or_felt (data_of table t)) (some t) none h tt
+  numeric_type_below t h = either (OptionBelow table) (is_u32_or_felt (data_of table t)) (Some t) None h tt
 
   pub numeric_below : (context : Option ℕ) → OptionBelow table context → Below table (numeric_context table context)
   unfolding numeric_context
-  numeric_below none h = base_below ok felt (lit< tt)
-  numeric_below (some t) h =
+  numeric_below None h = base_below ok felt (lit< tt)
+  numeric_below (Some t) h =
       choice (Below table) (numeric table t) felt (λ u. u) (base_below ok felt (lit< tt)) λ u e. option_some table e (numeric_type_below t h)
 
   pub contexts_below : (context : Option ℕ) (count : ℕ) → AllBelow table (element_contexts table context count)
   unfolding element_contexts
-  contexts_below none count = all_nil table
-  contexts_below (some t) count =
+  contexts_below None count = all_nil table
+  contexts_below (Some t) count =
       choice (AllBelow table) (as_tuple (data_of table t)) [] _ (all_nil table) λ ts e.
       either (AllBelow table) (eqb (length ts) count) ts [] (tuple_below ok (data_of table t) ts e (row_below ok t)) (all_nil table)
 
   pub hint_below : (context : Option ℕ) → OptionBelow table (element_hint table context)
   unfolding element_hint
-  hint_below none = tt
-  hint_below (some t) =
-      choice (OptionBelow table) (as_array (data_of table t)) none _ tt λ array e. array_below ok (data_of table t) array e (row_below ok t)
+  hint_below None = tt
+  hint_below (Some t) =
+      choice (OptionBelow table) (as_array (data_of table t)) None _ tt λ array e. array_below ok (data_of table t) array e (row_below ok t)
 
   pub suffix_below : (suffix : Option Name) → OptionBelow table (suffix_type suffix)
   unfolding suffix_type
-  suffix_below none = tt
-  suffix_below (some suffix) =
-      either (OptionBelow table) (eq_numbers suffix (bytes "u32")) (some u32) _ (base_below ok u32 (lit< tt))
-      (either (OptionBelow table) (eq_numbers suffix (bytes "felt")) (some felt) none (base_below ok felt (lit< tt)) tt)
+  suffix_below None = tt
+  suffix_below (Some suffix) =
+      either (OptionBelow table) (eq_numbers suffix (bytes "u32")) (Some u32) _ (base_below ok u32 (lit< tt))
+      (either (OptionBelow table) (eq_numbers suffix (bytes "felt")) (Some felt) None (base_below ok felt (lit< tt)) tt)
 
   pub unary_below : (rows : List UnaryOpSignature) → AllBelow table (map (λ r. r.result) rows) → (op : UnaryOp) (t : ℕ) → Below table (unary_result table rows op t)
   unfolding unary_result
@@ -249,33 +250,33 @@ module _ {table : Table} (ok : TableOk table) where
   navigate_later {after} x (index ∷ path) current h =
       (λ i.
       let_some (as_tuple (data_later x current h i)) error λ elements.
-      let_some (get_elem? elements index) error λ t. navigate after t path)
+      let_some (slice_get elements index) error λ t. navigate after t path)
       ∙ let_some_same (as_tuple (data_of table current)) error λ elements e.
-      let_some_same (get_elem? elements index) error λ t e'.
+      let_some_same (slice_get elements index) error λ t e'.
       navigate_later x path t (option_some table e' (at_below table elements index (tuple_below ok (data_of table current) elements e (row_below ok current))))
 
   pub numeric_type_later : {after : Table} → Extends table after → (t : ℕ) → Below table t → numeric after t ≡ numeric table t
   unfolding numeric
-  numeric_type_later x t h = λ i. if is_u32_or_felt (data_later x t h i) then some t else none
+  numeric_type_later x t h = λ i. if is_u32_or_felt (data_later x t h i) then Some t else None
 
   pub numeric_later : {after : Table} → Extends table after → (context : Option ℕ) → OptionBelow table context
       → numeric_context after context ≡ numeric_context table context
   unfolding numeric_context
-  numeric_later x none h = refl
-  numeric_later x (some t) h = λ i. let_some (numeric_type_later x t h i) felt (λ u. u)
+  numeric_later x None h = refl
+  numeric_later x (Some t) h = λ i. let_some (numeric_type_later x t h i) felt (λ u. u)
 
   pub contexts_later : {after : Table} → Extends table after → (context : Option ℕ) (count : ℕ) → OptionBelow table context
       → element_contexts after context count ≡ element_contexts table context count
   unfolding element_contexts
-  contexts_later x none count h = refl
-  contexts_later x (some t) count h =
+  contexts_later x None count h = refl
+  contexts_later x (Some t) count h =
       λ i. let_some (as_tuple (data_later x t h i)) [] λ ts. if eqb (length ts) count then ts else []
 
   pub hint_later : {after : Table} → Extends table after → (context : Option ℕ) → OptionBelow table context
       → element_hint after context ≡ element_hint table context
   unfolding element_hint
-  hint_later x none h = refl
-  hint_later x (some t) h = λ i. let_some (as_array (data_later x t h i)) none λ array. some array.element
+  hint_later x None h = refl
+  hint_later x (Some t) h = λ i. let_some (as_array (data_later x t h i)) None λ array. Some array.element
 
   pub unary_later : {after : Table} → Extends table after → (rows : List UnaryOpSignature) → AllBelow table (map (λ r. r.operand) rows)
       → (op : UnaryOp) (t : ℕ) → Below table t → unary_result after rows op t ≡ unary_result table rows op t

@@ -5,8 +5,9 @@ use mathlib.Core.Path.{◌≡◌, refl, sym, ◌∙◌, ap, subst}
 use mathlib.Core.Bool.{Bool, true, false, not, ◌&&◌}
 use mathlib.Core.List.Memᴰ
 use mathlib.Core.List.{List, [], ◌∷◌, ◌++◌, Memᴰ}
-use mathlib.Core.Option.{Option, none, some}
-use lib.ListN.{length, get_elem?}
+use Rattle.std.specs.Prelude.{Option, None, Some}
+use Rattle.std.specs.Prelude.{slice_get}
+use lib.ListN.{length}
 use lib.Dec.{eqb}
 use Rattle.std.specs.Prelude.{if◌then◌else◌}
 use Rattle.model.specs.Common.{let_some, eq_numbers}
@@ -115,8 +116,8 @@ find_named (field ∷ fields) name = go (eq_numbers field.name name) (find_named
 
     go : (b : Bool) → Found (λ t. Memᴰ t (field_types fields)) (field_type fields name) (field_type fields name)
         → Found (λ t. Memᴰ t (field_types (field ∷ fields)))
-        (if b then some field.type else field_type fields name)
-        (if b then some field.type else field_type fields name)
+        (if b then Some field.type else field_type fields name)
+        (if b then Some field.type else field_type fields name)
     go true h = both field.type (Memᴰ.head refl)
     go false h = later h
 
@@ -179,25 +180,25 @@ module _ (A B : Index) (a b : Body) (q : Asked) (hidden : Hidden A B a b q) wher
     unfolding infer_arguments
     infer_arguments_same params index [] h = same_done tt
     infer_arguments_same params index (arg ∷ args) h =
-        same_bind (infer_only_same arg (get_elem? params index) (λ e named. h e (Memᴰ.append_left (links args) named))) λ u.
+        same_bind (infer_only_same arg (slice_get params index) (λ e named. h e (Memᴰ.append_left (links args) named))) λ u.
         infer_arguments_same params (suc index) args (λ e named. h e (Memᴰ.append_right (link arg) named))
 
     infer_elements_same : (contexts : List ℕ) (index : ℕ) (elements : List (Option ℕ)) → ((e : ℕ) → Memᴰ e (links elements) → OutsideExpression A a m e)
         → Same OutsideDemand (infer_elements m contexts index elements) (infer_elements m contexts index elements)
     unfolding infer_elements
     infer_elements_same contexts index [] h = same_done []
-    infer_elements_same contexts index (none ∷ elements) h = infer_elements_same contexts (suc index) elements h
-    infer_elements_same contexts index (some element ∷ elements) h =
-        same_bind (same_asked (Demand.expression m element (get_elem? contexts index)) (h element (Memᴰ.head refl))) λ t.
+    infer_elements_same contexts index (None ∷ elements) h = infer_elements_same contexts (suc index) elements h
+    infer_elements_same contexts index (Some element ∷ elements) h =
+        same_bind (same_asked (Demand.expression m element (slice_get contexts index)) (h element (Memᴰ.head refl))) λ t.
         same_bind (infer_elements_same contexts (suc index) elements (λ e named. h e (Memᴰ.tail named))) λ ts. same_done (t ∷ ts)
 
     all_same_type_same : (element_type : ℕ) (elements : List (Option ℕ)) → ((e : ℕ) → Memᴰ e (links elements) → OutsideExpression A a m e)
         → Same OutsideDemand (all_same_type m element_type elements) (all_same_type m element_type elements)
     unfolding all_same_type
     all_same_type_same element_type [] h = same_done true
-    all_same_type_same element_type (none ∷ elements) h = same_done false
-    all_same_type_same element_type (some element ∷ elements) h =
-        same_bind (same_asked (Demand.expression m element (some element_type)) (h element (Memᴰ.head refl))) λ t.
+    all_same_type_same element_type (None ∷ elements) h = same_done false
+    all_same_type_same element_type (Some element ∷ elements) h =
+        same_bind (same_asked (Demand.expression m element (Some element_type)) (h element (Memᴰ.head refl))) λ t.
         same_look λ table.
         same_if (are_types_compatible table t element_type) (all_same_type_same element_type elements (λ e named. h e (Memᴰ.tail named))) (same_done false)
 
@@ -280,25 +281,25 @@ module _ (A B : Index) (a b : Body) (q : Asked) (hidden : Hidden A B a b q) wher
         → ((u : ℕ) → Memᴰ u (link t) → OutsideTypeExpr A a q m u) → ((f : ℕ) → Memᴰ f (link e) → OutsideExpression A a m f)
         → Same OutsideDemand (resolve_variable_type m s t e) (resolve_variable_type m s t e)
     unfolding resolve_variable_type
-    variable_same {s} scope (some t) e h g = same_asked (Demand.type m t s) (h t (Memᴰ.head refl), scope)
-    variable_same scope none (some e) h g = same_asked (Demand.expression m e none) (g e (Memᴰ.head refl))
-    variable_same scope none none h g = same_done _
+    variable_same {s} scope (Some t) e h g = same_asked (Demand.type m t s) (h t (Memᴰ.head refl), scope)
+    variable_same scope None (Some e) h g = same_asked (Demand.expression m e None) (g e (Memᴰ.head refl))
+    variable_same scope None None h g = same_done _
 
     let_same : {s : ℕ} → OutsideScope A a m s → (t e v : Option ℕ) (path : List ℕ)
         → ((u : ℕ) → Memᴰ u (link t) → OutsideTypeExpr A a q m u) → ((f : ℕ) → Memᴰ f (link e ++ link v) → OutsideExpression A a m f)
         → Same OutsideDemand (let_type m s t e v path) (let_type m s t e v path)
     unfolding let_type
-    let_same scope t e none path h g = variable_same scope t e h (λ f named. g f (Memᴰ.append_left [] named))
-    let_same scope t e (some v) path h g =
-        same_bind (same_asked (Demand.expression m v none) (g v (Memᴰ.append_right (link e) (Memᴰ.head refl)))) λ current. same_read _
+    let_same scope t e None path h g = variable_same scope t e h (λ f named. g f (Memᴰ.append_left [] named))
+    let_same scope t e (Some v) path h g =
+        same_bind (same_asked (Demand.expression m v None) (g v (Memᴰ.append_right (link e) (Memᴰ.head refl)))) λ current. same_read _
 
     const_same : {s : ℕ} → OutsideScope A a m s → (t e : Option ℕ)
         → ((u : ℕ) → Memᴰ u (link t) → OutsideTypeExpr A a q m u) → ((f : ℕ) → Memᴰ f (link e) → OutsideExpression A a m f)
         → Same OutsideDemand (const_type m s t e) (const_type m s t e)
     unfolding const_type
-    const_same {s} scope (some t) e h g = same_asked (Demand.type m t s) (h t (Memᴰ.head refl), scope)
-    const_same scope none (some e) h g = same_asked (Demand.expression m e none) (g e (Memᴰ.head refl))
-    const_same scope none none h g = same_done _
+    const_same {s} scope (Some t) e h g = same_asked (Demand.type m t s) (h t (Memᴰ.head refl), scope)
+    const_same scope None (Some e) h g = same_asked (Demand.expression m e None) (g e (Memᴰ.head refl))
+    const_same scope None None h g = same_done _
 
     -- ---------------------------------------------------------------- the context of an expression
 
@@ -312,43 +313,43 @@ module _ (A B : Index) (a b : Body) (q : Asked) (hidden : Hidden A B a b q) wher
         expression_definition_outside A a hidden.first_formed.links hidden.supposed.first_no_links outside
         (link_mem (sym (recorded (left_expression A B a b q hidden m sides outside)) ∙ e)))
       where
-        recorded : {o : Option ExpressionInfo} {x : ExpressionInfo} → o ≡ some x → let_some o none (λ r. r.definition) ≡ x.definition
-        recorded h = ap (λ o. let_some o none (λ r. r.definition)) h
+        recorded : {o : Option ExpressionInfo} {x : ExpressionInfo} → o ≡ Some x → let_some o None (λ r. r.definition) ≡ x.definition
+        recorded h = ap (λ o. let_some o None (λ r. r.definition)) h
 
     signature_param_same : (signature : Option ℕ) (index : ℕ) → Same OutsideDemand (signature_param signature index) (signature_param signature index)
     unfolding signature_param
-    signature_param_same none index = same_done none
-    signature_param_same (some t) index =
+    signature_param_same None index = same_done None
+    signature_param_same (Some t) index =
         same_bind (same_read (λ table. data_of table t)) λ row.
-        same_let_some (found_self (as_function row)) (same_done none) λ signature e. same_done _
+        same_let_some (found_self (as_function row)) (same_done None) λ signature e. same_done _
 
     signature_return_same : (signature : Option ℕ) → Same OutsideDemand (signature_return_type signature) (signature_return_type signature)
     unfolding signature_return_type
-    signature_return_same none = same_done none
-    signature_return_same (some t) =
+    signature_return_same None = same_done None
+    signature_return_same (Some t) =
         same_bind (same_read (λ table. data_of table t)) λ row.
-        same_let_some (found_self (as_function row)) (same_done none) λ signature e. same_done _
+        same_let_some (found_self (as_function row)) (same_done None) λ signature e. same_done _
 
     assignment_same : (node : Expression) {lhs : ℕ} → OutsideExpression A a m lhs → Same OutsideDemand (assignment_context m node lhs) (assignment_context m node lhs)
     unfolding assignment_context
     assignment_same node {lhs} outside =
         same_if (is_unsuffixed_literal node)
-        (same_bind (same_asked (Demand.expression m lhs none) outside) λ t. same_done (some t))
-        (same_done none)
+        (same_bind (same_asked (Demand.expression m lhs None) outside) λ t. same_done (Some t))
+        (same_done None)
 
     argument_same : {callee : ℕ} → OutsideExpression A a m callee → (index : ℕ)
         → Same OutsideDemand (argument_context m left callee index) (argument_context m right callee index)
     unfolding argument_context
     argument_same outside index =
-        same_let_some (info_found outside) (same_done none) λ callee_info known.
-        same_let_some (found_self (as_identifier callee_info.node)) (same_done none) λ name e.
-        same_let_some (definition_link_found outside) (same_done none) λ d outside_d.
+        same_let_some (info_found outside) (same_done None) λ callee_info known.
+        same_let_some (found_self (as_identifier callee_info.node)) (same_done None) λ name e.
+        same_let_some (definition_link_found outside) (same_done None) λ d outside_d.
         same_bind (same_asked (Demand.signature m d) outside_d) λ signature. signature_param_same signature index
 
     return_same : {s : ℕ} → OutsideScope A a m s → Same OutsideDemand (return_context m left s) (return_context m right s)
     unfolding return_context
     return_same scope =
-        same_let_some (first_function_found A B a b q hidden m sides scope) (same_done none) λ d outside.
+        same_let_some (first_function_found A B a b q hidden m sides scope) (same_done None) λ d outside.
         same_bind (same_asked (Demand.signature m d) outside) λ signature. signature_return_same signature
 
     field_definition_found : {d : ℕ} → OutsideDefinition A a m d
@@ -361,18 +362,18 @@ module _ (A B : Index) (a b : Body) (q : Asked) (hidden : Hidden A B a b q) wher
         → Same OutsideDemand (field_context m left parent field) (field_context m right parent field)
     unfolding field_context
     field_same outside field =
-        same_let_some (info_found outside) (same_done none) λ parent_info known.
-        same_let_some (found_self (as_struct_literal parent_info.node)) (same_done none) λ literal e.
-        same_let_some (name_at_position_found A B a b q hidden m sides literal.name literal.start literal.end known.scope) (same_done none) λ d outside_d.
-        same_let_some (field_definition_found outside_d) (same_done none) λ definition types.
-        same_let_some (struct_field_named definition.kind field) (same_done none) λ t named.
-        same_bind (same_asked (Demand.type m t parent_info.scope) (types t named, known.scope)) λ type. same_done (some type)
+        same_let_some (info_found outside) (same_done None) λ parent_info known.
+        same_let_some (found_self (as_struct_literal parent_info.node)) (same_done None) λ literal e.
+        same_let_some (name_at_position_found A B a b q hidden m sides literal.name literal.start literal.end known.scope) (same_done None) λ d outside_d.
+        same_let_some (field_definition_found outside_d) (same_done None) λ definition types.
+        same_let_some (struct_field_named definition.kind field) (same_done None) λ t named.
+        same_bind (same_asked (Demand.type m t parent_info.scope) (types t named, known.scope)) λ type. same_done (Some type)
 
     origin_same : (info : ExpressionInfo) → OutsideScope A a m info.scope → (origin : Origin)
         → ((e : ℕ) → Memᴰ e (origin_expressions origin) → OutsideExpression A a m e)
         → Same OutsideDemand (context_from_origin m left info origin) (context_from_origin m right info origin)
     unfolding context_from_origin origin_expressions
-    origin_same info scope Origin.Plain h = same_done none
+    origin_same info scope Origin.Plain h = same_done None
     origin_same info scope (Origin.AssignmentRhs lhs) h = assignment_same info.node (h lhs (Memᴰ.head refl))
     origin_same info scope (Origin.Arg callee index) h = argument_same (h callee (Memᴰ.head refl)) index
     origin_same info scope Origin.Condition h = same_done _
@@ -382,8 +383,8 @@ module _ (A B : Index) (a b : Body) (q : Asked) (hidden : Hidden A B a b q) wher
     context_same : {info : ExpressionInfo} → OutsideInfo m info → (given : Option ℕ)
         → Same OutsideDemand (context_expected m left info given) (context_expected m right info given)
     unfolding context_expected
-    context_same known (some t) = same_done _
-    context_same {info} known none = origin_same info known.scope info.origin known.origin
+    context_same known (Some t) = same_done _
+    context_same {info} known None = origin_same info known.scope info.origin known.origin
 
     -- ---------------------------------------------------------------- the nodes
 
@@ -392,7 +393,7 @@ module _ (A B : Index) (a b : Body) (q : Asked) (hidden : Hidden A B a b q) wher
           → Same OutsideDemand (expected_numeric m info) (expected_numeric m info)
       unfolding expected_numeric
       expected_same h =
-          same_let_some (found_link info.expected) (same_done none) λ t named.
+          same_let_some (found_link info.expected) (same_done None) λ t named.
           same_bind (same_asked (Demand.type m t info.scope) (h t named, scope)) λ expected_type. same_read _
 
       literal_same : ((t : ℕ) → Memᴰ t (link info.expected) → OutsideTypeExpr A a q m t) → (context : Option ℕ) (suffix : Option Name)
@@ -425,7 +426,7 @@ module _ (A B : Index) (a b : Body) (q : Asked) (hidden : Hidden A B a b q) wher
       unfolding new_type
       new_same {t} type count h =
           same_bind
-          (infer_only_same m count (some felt) h)
+          (infer_only_same m count (Some felt) h)
           λ counted.
           same_bind (same_asked (Demand.type m t info.scope) (type, scope)) λ element. same_entered _
 
@@ -454,16 +455,16 @@ module _ (A B : Index) (a b : Body) (q : Asked) (hidden : Hidden A B a b q) wher
           same_ifs _ _
           (λ i. is_commutative op && (operand_same outside_l i && not (operand_same outside_r i)))
           (same_bind (same_asked (Demand.expression m right_id context) outside_r) λ right_type.
-          same_bind (same_asked (Demand.expression m left_id (some right_type)) outside_l) λ left_type. same_read _)
+          same_bind (same_asked (Demand.expression m left_id (Some right_type)) outside_l) λ left_type. same_read _)
           (same_bind (same_asked (Demand.expression m left_id context) outside_l) λ left_type.
-          same_bind (same_asked (Demand.expression m right_id (some left_type)) outside_r) λ right_type. same_read _)
+          same_bind (same_asked (Demand.expression m right_id (Some left_type)) outside_r) λ right_type. same_read _)
 
       member_same : (object : Option ℕ) (field : Name) → ((e : ℕ) → Memᴰ e (link object) → OutsideExpression A a m e)
           → Same OutsideDemand (member_type m object field) (member_type m object field)
       unfolding member_type
       member_same object field h =
           same_let_some (found_link object) (same_done error) λ e named.
-          same_bind (same_asked (Demand.expression m e none) (h e named)) λ object_type.
+          same_bind (same_asked (Demand.expression m e None) (h e named)) λ object_type.
           same_bind (same_read (λ table. data_of table object_type)) λ row.
           same_let_some (found_self (as_struct row)) (same_done error) λ fields is_struct.
           same_let_some (found_self (field_type fields field)) (same_done error) λ t has_field. same_done t
@@ -471,8 +472,8 @@ module _ (A B : Index) (a b : Body) (q : Asked) (hidden : Hidden A B a b q) wher
       callee_same : (callee : Option ℕ) → ((e : ℕ) → Memᴰ e (link callee) → OutsideExpression A a m e)
           → callee_is_builtin left callee ≡ callee_is_builtin right callee
       unfolding callee_is_builtin
-      callee_same none h = refl
-      callee_same (some e) h =
+      callee_same None h = refl
+      callee_same (Some e) h =
           let outside = h e (Memᴰ.head refl) in
           ap (λ o. let_some o false (λ r. let_some (as_identifier r.node) false is_builtin_function_name))
           (left_expression A B a b q hidden m sides outside ∙ sym (right_expression A B a b q hidden m sides outside))
@@ -483,7 +484,7 @@ module _ (A B : Index) (a b : Body) (q : Asked) (hidden : Hidden A B a b q) wher
       call_same callee args h =
           same_ifs _ _ (callee_same callee (λ e named. h e (Memᴰ.append_left (links args) named))) (same_done _)
           (same_let_some (found_link callee) (same_done error) λ e named.
-          same_bind (same_asked (Demand.expression m e none) (h e (Memᴰ.append_left (links args) named))) λ callee_type.
+          same_bind (same_asked (Demand.expression m e None) (h e (Memᴰ.append_left (links args) named))) λ callee_type.
           same_bind (same_read (λ table. data_of table callee_type)) λ row.
           same_let_some (found_self (as_function row)) (same_done error) λ signature is_function.
           same_bind (infer_arguments_same m signature.params 0 args (λ f named_f. h f (Memᴰ.append_right (link callee) named_f))) λ u. same_done _)
@@ -502,9 +503,9 @@ module _ (A B : Index) (a b : Body) (q : Asked) (hidden : Hidden A B a b q) wher
       unfolding index_type
       index_same array index h =
           same_let_some (found_link array) (same_done error) λ array_id named.
-          same_bind (same_asked (Demand.expression m array_id none) (h array_id (Memᴰ.append_left (link index) named))) λ array_type.
+          same_bind (same_asked (Demand.expression m array_id None) (h array_id (Memᴰ.append_left (link index) named))) λ array_type.
           same_bind
-          (infer_only_same m index (some felt) (λ e named_i. h e (Memᴰ.append_right (link array) named_i)))
+          (infer_only_same m index (Some felt) (λ e named_i. h e (Memᴰ.append_right (link array) named_i)))
           λ u.
           same_bind (same_read (λ table. data_of table array_type)) λ row.
           same_let_some (found_self (as_array row))
@@ -524,10 +525,10 @@ module _ (A B : Index) (a b : Body) (q : Asked) (hidden : Hidden A B a b q) wher
       unfolding tuple_index_type
       tuple_index_same tuple index h =
           same_let_some (found_link tuple) (same_refuse 6) λ tuple_id named.
-          same_bind (same_asked (Demand.expression m tuple_id none) (h tuple_id named)) λ t.
+          same_bind (same_asked (Demand.expression m tuple_id None) (h tuple_id named)) λ t.
           same_bind (same_read (λ table. data_of table t)) λ row.
           same_let_some (found_self (as_tuple row)) (same_done error) λ elements is_tuple.
-          same_let_some (found_self (get_elem? elements index)) (same_done error) λ element e. same_done element
+          same_let_some (found_self (slice_get elements index)) (same_done error) λ element e. same_done element
 
       empty_array_same : ((t : ℕ) → Memᴰ t (link info.expected) → OutsideTypeExpr A a q m t)
           → Same OutsideDemand (empty_array_type m info) (empty_array_type m info)
@@ -589,7 +590,7 @@ module _ (A B : Index) (a b : Body) (q : Asked) (hidden : Hidden A B a b q) wher
   -- ------------------------------------------------------------------ the five programs
 
   abbrev ModulesOf : ℕ → Module → Module → Type 0
-  ModulesOf m left right = (module_at A m ≡ some left) × (module_at B m ≡ some right)
+  ModulesOf m left right = (module_at A m ≡ Some left) × (module_at B m ≡ Some right)
 
   modules_found : (m : ℕ) → Present (module_at A m) → Each (ModulesOf m) (module_at A m) (module_at B m)
   modules_found m present =
@@ -669,41 +670,41 @@ module _ (A B : Index) (a b : Body) (q : Asked) (hidden : Hidden A B a b q) wher
   unfolding struct_kind_data definition_types
   struct_same m d scope (DefinitionKind.Struct fields) types =
       same_bind (resolve_all_same m scope (field_types fields) types) λ ts.
-      same_bind (same_entered _) λ t. same_done (some t)
-  struct_same m d scope (DefinitionKind.Function t params) types = same_done none
-  struct_same m d scope (DefinitionKind.Parameter t) types = same_done none
-  struct_same m d scope (DefinitionKind.Let t e v path) types = same_done none
-  struct_same m d scope (DefinitionKind.Const t e) types = same_done none
-  struct_same m d scope (DefinitionKind.Use imported_module item) types = same_done none
-  struct_same m d scope DefinitionKind.LoopVariable types = same_done none
+      same_bind (same_entered _) λ t. same_done (Some t)
+  struct_same m d scope (DefinitionKind.Function t params) types = same_done None
+  struct_same m d scope (DefinitionKind.Parameter t) types = same_done None
+  struct_same m d scope (DefinitionKind.Let t e v path) types = same_done None
+  struct_same m d scope (DefinitionKind.Const t e) types = same_done None
+  struct_same m d scope (DefinitionKind.Use imported_module item) types = same_done None
+  struct_same m d scope DefinitionKind.LoopVariable types = same_done None
 
   struct_program_same : (m d : ℕ) → OutsideDefinition A a m d → Same OutsideDemand (struct_program A m d) (struct_program B m d)
   unfolding struct_program
   struct_program_same m d outside =
-      same_each (modules_found m (module_found A m _ outside.found)) (same_done none) λ left right here.
-      same_let_some (definition_found (sides_from here) outside) (same_done none) λ definition known.
+      same_each (modules_found m (module_found A m _ outside.found)) (same_done None) λ left right here.
+      same_let_some (definition_found (sides_from here) outside) (same_done None) λ definition known.
       struct_same m d known.scope definition.kind known.types
 
   signature_same : (m d : ℕ) {s : ℕ} → OutsideScope A a m s → (kind : DefinitionKind)
       → ((t : ℕ) → Memᴰ t (definition_types kind) → OutsideTypeExpr A a q m t)
       → Same OutsideDemand (function_kind_signature m d s kind) (function_kind_signature m d s kind)
   unfolding function_kind_signature definition_types
-  signature_same m d scope (DefinitionKind.Struct fields) types = same_done none
+  signature_same m d scope (DefinitionKind.Struct fields) types = same_done None
   signature_same m d {s} scope (DefinitionKind.Function return_t params) types =
       same_bind (resolve_all_same m scope (field_types params) (λ t named. types t (Memᴰ.tail named))) λ param_types.
       same_bind (same_asked (Demand.type m return_t s) (types return_t (Memᴰ.head refl), scope)) λ return_type.
-      same_bind (same_entered _) λ t. same_done (some t)
-  signature_same m d scope (DefinitionKind.Parameter t) types = same_done none
-  signature_same m d scope (DefinitionKind.Let t e v path) types = same_done none
-  signature_same m d scope (DefinitionKind.Const t e) types = same_done none
-  signature_same m d scope (DefinitionKind.Use imported_module item) types = same_done none
-  signature_same m d scope DefinitionKind.LoopVariable types = same_done none
+      same_bind (same_entered _) λ t. same_done (Some t)
+  signature_same m d scope (DefinitionKind.Parameter t) types = same_done None
+  signature_same m d scope (DefinitionKind.Let t e v path) types = same_done None
+  signature_same m d scope (DefinitionKind.Const t e) types = same_done None
+  signature_same m d scope (DefinitionKind.Use imported_module item) types = same_done None
+  signature_same m d scope DefinitionKind.LoopVariable types = same_done None
 
   signature_program_same : (m d : ℕ) → OutsideDefinition A a m d → Same OutsideDemand (signature_program A m d) (signature_program B m d)
   unfolding signature_program
   signature_program_same m d outside =
-      same_each (modules_found m (module_found A m _ outside.found)) (same_done none) λ left right here.
-      same_let_some (definition_found (sides_from here) outside) (same_done none) λ definition known.
+      same_each (modules_found m (module_found A m _ outside.found)) (same_done None) λ left right here.
+      same_let_some (definition_found (sides_from here) outside) (same_done None) λ definition known.
       signature_same m d known.scope definition.kind known.types
 
   expression_program_same : (m e : ℕ) (given : Option ℕ) → OutsideExpression A a m e
@@ -736,7 +737,7 @@ module _ (A B : Index) (a b : Body) (q : Asked) (hidden : Hidden A B a b q) wher
       same_each (modules_found m (module_found A m _ outside.found)) (same_done error) λ left right here.
       same_let_some (info_found m (sides_from here) outside) (same_done error) λ info known.
       same_bind (same_asked (Demand.type m t info.scope) (type, known.scope)) λ context.
-      same_asked (Demand.expression m e (some context)) outside
+      same_asked (Demand.expression m e (Some context)) outside
 
   says_type_same : {p p' : Program ℕ} → Same OutsideDemand p p' → Same OutsideDemand (says_type p) (says_type p')
   unfolding says_type
@@ -744,7 +745,7 @@ module _ (A B : Index) (a b : Body) (q : Asked) (hidden : Hidden A B a b q) wher
 
   says_at_same : (m : ℕ) {found found' : Option ℕ} → Found (OutsideExpression A a m) found found' → Same OutsideDemand (says_at m found) (says_at m found')
   unfolding says_at
-  says_at_same m found = same_let_some found (same_done _) λ e outside. says_type_same (same_asked (Demand.expression m e none) outside)
+  says_at_same m found = same_let_some found (same_done _) λ e outside. says_type_same (same_asked (Demand.expression m e None) outside)
 
   at_same : (m position : ℕ) → NotCoveredInside A a m position → NotCoveredInside B b m position
       → Same OutsideDemand (at_program A m position) (at_program B m position)
@@ -755,14 +756,14 @@ module _ (A B : Index) (a b : Body) (q : Asked) (hidden : Hidden A B a b q) wher
 
   pub asked_same : (r : Asked) → q ≡ r → AboutOutside A a r → AboutOutside B b r → Same OutsideDemand (asked_program A r) (asked_program B r)
   unfolding asked_program asked_module asked_types
-  asked_same (Asked.expr m e none) is_q about about_B = says_type_same (same_asked (Demand.expression m e none) about)
-  asked_same (Asked.expr m e (some t)) is_q about about_B =
+  asked_same (Asked.expr m e None) is_q about about_B = says_type_same (same_asked (Demand.expression m e None) about)
+  asked_same (Asked.expr m e (Some t)) is_q about about_B =
       says_type_same (in_context_same m e t about.0 (asked_type m t (named_module_of is_q) (named_type_of is_q) about.1))
     where
-      named_module_of : q ≡ Asked.expr m e (some t) → m ≡ asked_module q
+      named_module_of : q ≡ Asked.expr m e (Some t) → m ≡ asked_module q
       named_module_of h = ap asked_module (sym h)
 
-      named_type_of : q ≡ Asked.expr m e (some t) → Memᴰ t (asked_types q)
+      named_type_of : q ≡ Asked.expr m e (Some t) → Memᴰ t (asked_types q)
       named_type_of h = subst (λ x. Memᴰ t (asked_types x)) (sym h) (Memᴰ.head refl)
   asked_same (Asked.def m d) is_q about about_B = says_type_same (same_asked (Demand.definition m d) about)
   asked_same (Asked.at m position) is_q about about_B = at_same m position about about_B

@@ -3,8 +3,8 @@ use Prim.Native.Nat.{ℕ, zero, suc}
 use mathlib.Core.Path.{◌≡◌, refl, sym, ◌∙◌, ap}
 use mathlib.Core.Bool.{true, false}
 use mathlib.Core.List.{List, [], ◌∷◌, Memᴰ}
-use mathlib.Core.Option.{Option, none, some}
-use lib.ListN.{get_elem?}
+use Rattle.std.specs.Prelude.{Option, None, Some}
+use Rattle.std.specs.Prelude.{slice_get}
 use Rattle.model.specs.Common.{Text, let_some}
 use Rattle.model.specs.Records.{Question, Index}
 use Rattle.model.specs.Limits.{max_open_demands}
@@ -53,12 +53,12 @@ module _ (A B : Index) (a b : Body) (q : Asked) (hidden : Hidden A B a b q) wher
 
   line_same : asked_line A q ≡ asked_line B q
   unfolding asked_line verdict
-  line_same = ap (λ o. let_some (outcome_verdict o) none (λ v. some (record { asked = q; verdict = v }))) resolve_same
+  line_same = ap (λ o. let_some (outcome_verdict o) None (λ v. Some (record { asked = q; verdict = v }))) resolve_same
 
 -- ------------------------------------------------------------------ files
 
 -- the reply for a line of an accepted file's question
-pub question_answered : (file : Text) (place : ℕ) (index : Index) (question : Question) → load file ≡ accepted index → get_elem? index.questions place ≡ some question
+pub question_answered : (file : Text) (place : ℕ) (index : Index) (question : Question) → load file ≡ accepted index → slice_get index.questions place ≡ Some question
     → (number : ℕ) → answer file place number ≡ line_at (question_lines index question) number
 unfolding answer ask_loaded
 question_answered file place index question loaded asked number =
@@ -66,31 +66,31 @@ question_answered file place index question loaded asked number =
     ∙ ap (λ o. let_some o (Reply.file_refused refusal_link 0) (λ q. line_at (question_lines index q) number)) asked
 
 -- a reply that is a line is the line of that number
-pub reply_line : (lines : List Line) (number : ℕ) (line : Line) → line_at lines number ≡ Reply.the_line line → get_elem? lines number ≡ some line
+pub reply_line : (lines : List Line) (number : ℕ) (line : Line) → line_at lines number ≡ Reply.the_line line → slice_get lines number ≡ Some line
 unfolding line_at
-reply_line lines number line e = go (get_elem? lines number) e
+reply_line lines number line e = go (slice_get lines number) e
   where
     line_in : Reply → Option Line
-    line_in (Reply.the_line l) = some l
-    line_in Reply.past_last = none
-    line_in (Reply.file_refused n at) = none
+    line_in (Reply.the_line l) = Some l
+    line_in Reply.past_last = None
+    line_in (Reply.file_refused n at) = None
 
-    go : (o : Option Line) → let_some o Reply.past_last Reply.the_line ≡ Reply.the_line line → o ≡ some line
-    go none h = ap line_in h
-    go (some l) h = ap line_in h
+    go : (o : Option Line) → let_some o Reply.past_last Reply.the_line ≡ Reply.the_line line → o ≡ Some line
+    go None h = ap line_in h
+    go (Some l) h = ap line_in h
 
-line_reply : (lines : List Line) (number : ℕ) (line : Line) → get_elem? lines number ≡ some line → line_at lines number ≡ Reply.the_line line
+line_reply : (lines : List Line) (number : ℕ) (line : Line) → slice_get lines number ≡ Some line → line_at lines number ≡ Reply.the_line line
 unfolding line_at
 line_reply lines number line e = ap (λ o. let_some o Reply.past_last Reply.the_line) e
 
 -- a line of one index's question is a line of the other's
 line_over : (A B : Index) (asked : Asked) (question : Question) → asked_line A asked ≡ asked_line B asked → Memᴰ asked (question_asked B question)
-    → (number : ℕ) (line : Line) → get_elem? (question_lines A question) number ≡ some line → line.asked ≡ asked
-    → (other : ℕ) × (get_elem? (question_lines B question) other ≡ some line)
+    → (number : ℕ) (line : Line) → slice_get (question_lines A question) number ≡ Some line → line.asked ≡ asked
+    → (other : ℕ) × (slice_get (question_lines B question) other ≡ Some line)
 unfolding question_lines
 line_over A B asked question same mem number line e about =
     let (x, mem', h) = collected_from (asked_line A) (question_asked A question) number e in
-    let is : asked_line A asked ≡ some line = ap (asked_line A) (sym about ∙ line_about A x line h) ∙ h in
+    let is : asked_line A asked ≡ Some line = ap (asked_line A) (sym about ∙ line_about A x line h) ∙ h in
     collected_there (asked_line B) (question_asked B question) mem (sym same ∙ is)
 
 -- the stronger form, without a premise on `bin` and `lit`

@@ -6,7 +6,7 @@ use mathlib.Core.Path.{◌≡◌, refl, sym, ap, subst}
 use mathlib.Core.Bool.{Bool, true, false, not, ◌&&◌, ◌||◌}
 use mathlib.Core.List.Memᴰ
 use mathlib.Core.List.{List, [], ◌∷◌, ◌++◌, Memᴰ}
-use mathlib.Core.Option.{Option, none, some}
+use Rattle.std.specs.Prelude.{Option, None, Some}
 use mathlib.Core.Logic.{⊎_elim}
 use lib.Dec.{T, eqb, ltb, nltb→le}
 use lib.ListN.{get_or}
@@ -50,20 +50,20 @@ rows_same f g (TypeData.Tuple ts) e h =
     ap (λ b. is_error_or_unknown (TypeData.Tuple ts) || is_error_or_unknown e || b || false || false) (go (as_tuple e))
   where
     go : (o : Option (List ℕ)) → let_some o false (λ us. all_pairs f ts us) ≡ let_some o false (λ us. all_pairs g ts us)
-    go none = refl
-    go (some us) = pairs_same f g ts us h
+    go None = refl
+    go (Some us) = pairs_same f g ts us h
 rows_same f g (TypeData.Pointer t) e h =
     ap (λ b. is_error_or_unknown (TypeData.Pointer t) || is_error_or_unknown e || false || false || b) (go (as_pointer e))
   where
     go : (o : Option ℕ) → let_some o false (λ u. f t u) ≡ let_some o false (λ u. g t u)
-    go none = refl
-    go (some u) = h t u (Memᴰ.head refl)
+    go None = refl
+    go (Some u) = h t u (Memᴰ.head refl)
 rows_same f g (TypeData.FixedArray t size) e h =
     ap (λ b. is_error_or_unknown (TypeData.FixedArray t size) || is_error_or_unknown e || false || b || false) (go (as_array e))
   where
     go : (o : Option Array) → let_some o false (λ y. eqb size y.size && f t y.element) ≡ let_some o false (λ y. eqb size y.size && g t y.element)
-    go none = refl
-    go (some y) = ap (λ b. eqb size y.size && b) (h t y.element (Memᴰ.head refl))
+    go None = refl
+    go (Some y) = ap (λ b. eqb size y.size && b) (h t y.element (Memᴰ.head refl))
 rows_same f g (TypeData.Struct m d fields) e h = refl
 rows_same f g (TypeData.Function m d params t) e h = refl
 

@@ -6,10 +6,11 @@ use mathlib.Core.Path.{◌≡◌, refl, sym, ◌∙◌, ap, subst}
 use mathlib.Core.Bool.{Bool, true, false}
 use mathlib.Core.List.Memᴰ
 use mathlib.Core.List.{[], ◌∷◌, ◌++◌, append_assoc, append-nil, Memᴰ}
-use mathlib.Core.Option.{Option, none, some}
+use Rattle.std.specs.Prelude.{Option, None, Some}
 use mathlib.Core.Logic.{⊎_elim}
 use lib.Dec.{T, leb, ltb, leb→le, ltb→lt, lit≤}
-use lib.ListN.{length, get_elem?, length-append, get_or}
+use Rattle.std.specs.Prelude.{slice_get}
+use lib.ListN.{length, length-append, get_or}
 use Rattle.std.specs.Prelude.{if◌then◌else◌}
 use Rattle.model.specs.Common.{let_some}
 use Rattle.model.proofs.Tests.{and_left, and_right, none≢some, some-injective}
@@ -52,7 +53,7 @@ inner_below {table} ok t u named =
     (getD_cases table t TypeData.Error)
 
 -- a row of the first table stands at the number of its kind, and has no type inside
-first_row : (k : ℕ) (row : TypeData) → get_elem? first_table k ≡ some row → (kind_number row ≡ k) × (row_types row ≡ [])
+first_row : (k : ℕ) (row : TypeData) → slice_get first_table k ≡ Some row → (kind_number row ≡ k) × (row_types row ≡ [])
 unfolding first_table kind_number row_types
 first_row zero row e = subst (λ r. (kind_number r ≡ 0) × (row_types r ≡ [])) (some-injective e) (refl, refl)
 first_row (suc zero) row e = subst (λ r. (kind_number r ≡ 1) × (row_types r ≡ [])) (some-injective e) (refl, refl)
@@ -84,7 +85,7 @@ module _ (table : Table) (row : TypeData) (ok : TableOk table) (inner : (t : ℕ
   longer : Extends table (table ++ (row ∷ []))
   longer = record { more = row ∷ []; is_more = refl }
 
-  new_ok : find_type table row ≡ none → has_room table row ≡ true → TableOk (table ++ (row ∷ []))
+  new_ok : find_type table row ≡ None → has_room table row ≡ true → TableOk (table ++ (row ∷ []))
   unfolding has_room
   new_ok is_new room =
       record {
@@ -101,11 +102,11 @@ module _ (table : Table) (row : TypeData) (ok : TableOk table) (inner : (t : ℕ
             (λ old_j.
             ⊎_elim
             (λ old_k. ok.one_number j k r old_j old_k)
-            (λ last_k. absurd (find_type_none table row is_new j (old_j ∙ ap some (sym last_k.1))))
+            (λ last_k. absurd (find_type_none table row is_new j (old_j ∙ ap Some (sym last_k.1))))
             (getElem_snoc table row r k e'))
             (λ last_j.
             ⊎_elim
-            (λ old_k. absurd (find_type_none table row is_new k (old_k ∙ ap some (sym last_j.1))))
+            (λ old_k. absurd (find_type_none table row is_new k (old_k ∙ ap Some (sym last_j.1))))
             (λ last_k. last_j.0 ∙ sym last_k.0)
             (getElem_snoc table row r k e'))
             (getElem_snoc table row r j e);
@@ -128,12 +129,12 @@ module _ (table : Table) (row : TypeData) (ok : TableOk table) (inner : (t : ℕ
   unfolding enter_type
   enter_ok = go (find_type table row) refl
     where
-      room_case : find_type table row ≡ none → (b : Bool) → has_room table row ≡ b
+      room_case : find_type table row ≡ None → (b : Bool) → has_room table row ≡ b
           → OutcomeOk Below table (if b then answered (length table) (table ++ (row ∷ [])) else refused 9)
       room_case is_new true room = (new_ok is_new room, longer, omega (arith, length-append table (row ∷ [])))
       room_case is_new false room = (lit≤ tt, lit≤ tt)
 
       go : (o : Option ℕ) → find_type table row ≡ o
           → OutcomeOk Below table (let_some o (if has_room table row then answered (length table) (table ++ (row ∷ [])) else refused 9) (λ t. answered t table))
-      go none e = room_case e (has_room table row) refl
-      go (some t) e = (ok, extends_refl table, getElem_below table t (find_type_some table row t e))
+      go None e = room_case e (has_room table row) refl
+      go (Some t) e = (ok, extends_refl table, getElem_below table t (find_type_some table row t e))

@@ -1,6 +1,6 @@
 -- The answer lines: the text of a type, refusal 10, and the lines of a question, byte for byte. Assumes nothing.
 use Rattle.std.specs.Prelude.{ℕ, zero, suc, ◌+◌, ◌/◌, ◌%◌, true, false, List, [], ◌∷◌, ◌++◌, ltb, leb, length}
-use Rattle.std.proofs.Math.Option.{Option, none, some}
+use Rattle.std.specs.Prelude.{Option, None, Some}
 use Rattle.std.specs.Prelude.{if◌then◌else◌}
 use Rattle.model.specs.Common.{Text, let_some, collect, joined, bytes}
 use Rattle.model.specs.Records.{Question, Index}
@@ -69,14 +69,14 @@ unfoldable pub text_verdict : Text → Verdict
 text_verdict text = if leb (length text) max_text then Verdict.typed text else Verdict.refused refusal_text
 
 unfoldable pub said_verdict : Table → Said → Option Verdict
-said_verdict table (Said.type t) = some (text_verdict (type_text table t))
-said_verdict table (Said.word word) = some (Verdict.worded word)
-said_verdict table Said.nothing = none
+said_verdict table (Said.type t) = Some (text_verdict (type_text table t))
+said_verdict table (Said.word word) = Some (Verdict.worded word)
+said_verdict table Said.nothing = None
 
 -- none where there is no line
 unfoldable pub outcome_verdict : Outcome Said → Option Verdict
 outcome_verdict (Outcome.answered said table) = said_verdict table said
-outcome_verdict (Outcome.refused n) = some (Verdict.refused n)
+outcome_verdict (Outcome.refused n) = Some (Verdict.refused n)
 
 unfoldable pub verdict : Index → Asked → Option Verdict
 verdict index asked = outcome_verdict (resolve_asked index asked)
@@ -120,7 +120,7 @@ line_written line = written line.asked line.verdict
 
 -- the line about it
 unfoldable pub asked_line : Index → Asked → Option Line
-asked_line index asked = let_some (verdict index asked) none λ v. some (record { asked = asked; verdict = v })
+asked_line index asked = let_some (verdict index asked) None λ v. Some (record { asked = asked; verdict = v })
 
 -- the lines of a question; their numbers run from 0
 unfoldable pub question_lines : Index → Question → List Line

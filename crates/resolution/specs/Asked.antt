@@ -1,6 +1,6 @@
 -- What an answer line is about. A question has a list of these, in the order of its lines, and each has one line or none. Assumes nothing.
 use Rattle.std.specs.Prelude.{ℕ, ◌≡◌, List, [], ◌∷◌}
-use Rattle.std.proofs.Math.Option.{Option}
+use Rattle.std.specs.Prelude.{Option}
 use Rattle.model.specs.Records.{Question, Index}
 use Rattle.model.specs.Links.{link}
 use Rattle.model.specs.Limits.{max_expressions}

@@ -1,6 +1,6 @@
 -- `are_types_compatible` and the operator rows (`type_resolution.rs`). Assumes nothing.
 use Rattle.std.specs.Prelude.{ℕ, zero, suc, Bool, true, false, ◌&&◌, ◌||◌, List, [], ◌∷◌, eqb}
-use Rattle.std.proofs.Math.Option.{Option}
+use Rattle.std.specs.Prelude.{Option}
 use Rattle.std.specs.Prelude.{if◌then◌else◌}
 use Rattle.model.specs.Common.{let_some}
 use Rattle.model.specs.Records.{UnaryOp, BinaryOp}

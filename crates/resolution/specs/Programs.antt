@@ -1,7 +1,7 @@
 -- A resolution function as a program: a tree of what it does, in the Rust's order of evaluation, up to its answer or a refusal.
 -- `Run` says what a program gives. Assumes nothing.
 use Rattle.std.specs.Prelude.{ℕ, Bool, true, false}
-use Rattle.std.proofs.Math.Option.{Option, none, some}
+use Rattle.std.specs.Prelude.{Option, None, Some}
 use Rattle.model.specs.Common.{Text}
 use Rattle.model.specs.Refusals.{refusal_child}
 use Rattle.resolution.specs.TypeData.{TypeData}
@@ -66,8 +66,8 @@ when true then p else q = p
 when false then p else q = q
 
 unfoldable pub let_some : {A B : Type 0} → Option A → Program B → (A → Program B) → Program B
-let_some none p f = p
-let_some (some a) p f = f a
+let_some None p f = p
+let_some (Some a) p f = f a
 
 -- 6: a missing child where the Rust unwraps
 abbrev pub missing_child : {A : Type 0} → Program A

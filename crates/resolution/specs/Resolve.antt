@@ -1,8 +1,8 @@
 -- The whole definition: what `resolve` prints for the bytes that it reads, and what is answered when one line of a question is asked.
 -- Assumes nothing.
 use Rattle.std.specs.Prelude.{ℕ, List, [], ◌++◌}
-use Rattle.std.proofs.Math.Option.{Option, none, some}
-use Rattle.std.proofs.Math.ListN.{get_elem?}
+use Rattle.std.specs.Prelude.{Option, None, Some}
+use Rattle.std.specs.Prelude.{slice_get}
 use Rattle.model.specs.Common.{Text, bytes, let_some}
 use Rattle.model.specs.Refusals.{refusal_link}
 use Rattle.format.specs.Load.{Loading, load}
@@ -29,9 +29,9 @@ pub data Reply : Type 0 where
 
 -- what is printed, where the file is accepted and has the question and the line
 unfoldable pub line_of : Reply → Option Text
-line_of (Reply.the_line line) = some (line_text line)
-line_of Reply.past_last = none
-line_of (Reply.file_refused number at_line) = none
+line_of (Reply.the_line line) = Some (line_text line)
+line_of Reply.past_last = None
+line_of (Reply.file_refused number at_line) = None
 
 -- what the answer buffer holds from its start; the bytes behind it stay. Nothing for a refusal, and where there is no line
 unfoldable pub written_of : Reply → Text
@@ -40,12 +40,12 @@ written_of Reply.past_last = []
 written_of (Reply.file_refused number at_line) = []
 
 unfoldable pub line_at : List Line → ℕ → Reply
-line_at lines line = let_some (get_elem? lines line) Reply.past_last Reply.the_line
+line_at lines line = let_some (slice_get lines line) Reply.past_last Reply.the_line
 
 -- the question of that number; "last a question number the file lacks (5, line 0)"
 unfoldable pub ask_loaded : Loading → ℕ → ℕ → Reply
 ask_loaded (Loading.accepted index) number line =
-    let_some (get_elem? index.questions number) (Reply.file_refused refusal_link 0) λ question.
+    let_some (slice_get index.questions number) (Reply.file_refused refusal_link 0) λ question.
     line_at (question_lines index question) line
 ask_loaded (Loading.refused refusal at_line) number line = Reply.file_refused refusal at_line
 

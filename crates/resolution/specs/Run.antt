@@ -1,6 +1,6 @@
 -- What a program gives: interning with refusal 9, the list of open demands with refusals 7 and 8, and what is asked. Assumes nothing.
 use Rattle.std.specs.Prelude.{ℕ, zero, suc, Bool, true, false, List, [], ◌∷◌, ◌++◌, length}
-use Rattle.std.proofs.Math.Option.{none, some}
+use Rattle.std.specs.Prelude.{None, Some}
 use Rattle.std.specs.Prelude.{if◌then◌else◌}
 use Rattle.model.specs.Common.{let_some, any, eq_numbers}
 use Rattle.model.specs.Records.{Index}
@@ -44,8 +44,8 @@ run handler (look k) table = run handler (k table) table
 unfoldable pub demand_key : Demand → List ℕ
 demand_key (Demand.type m t s) = 0 ∷ m ∷ t ∷ s ∷ []
 demand_key (Demand.definition m d) = 1 ∷ m ∷ d ∷ []
-demand_key (Demand.expression m e none) = 2 ∷ m ∷ e ∷ []
-demand_key (Demand.expression m e (some t)) = 2 ∷ m ∷ e ∷ t ∷ []
+demand_key (Demand.expression m e None) = 2 ∷ m ∷ e ∷ []
+demand_key (Demand.expression m e (Some t)) = 2 ∷ m ∷ e ∷ t ∷ []
 demand_key (Demand.struct m d) = 3 ∷ m ∷ d ∷ []
 demand_key (Demand.signature m d) = 4 ∷ m ∷ d ∷ []
 

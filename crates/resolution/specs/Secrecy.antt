@@ -2,8 +2,8 @@
 -- outside that stands in both, at a place in each (document 01, "Inside a function"). Assumes nothing.
 use Rattle.std.specs.Prelude.{ℕ, ◌≡◌}
 use mathlib.Core.List.{◌++◌, Memᴰ}
-use Rattle.std.proofs.Math.Option.{Option, some}
-use Rattle.std.proofs.Math.ListN.{get_elem?}
+use Rattle.std.specs.Prelude.{Option, Some}
+use Rattle.std.specs.Prelude.{slice_get}
 use Rattle.model.specs.Common.{Text}
 use Rattle.model.specs.Records.{Name, TypeExpr, BinaryOp, Expression, ExpressionInfo, Question, Index}
 use Rattle.model.specs.Links.{module_name, scope_in, type_in, definition_in, expression_in, link}
@@ -17,15 +17,15 @@ use Rattle.resolution.specs.Resolve.{Reply, answer}
 
 -- each record outside in the first index stands in the second, outside too, under the same kind, module and number with the same fields
 pub record StandsIn (first : Index) (first_body : Body) (second : Index) (second_body : Body) (asked : Asked) : Type 0 where
-  pub modules : (m : ℕ) (name : Name) → module_name first m ≡ some name → module_name second m ≡ some name
+  pub modules : (m : ℕ) (name : Name) → module_name first m ≡ Some name → module_name second m ≡ Some name
   pub scopes : (m s : ℕ) (outside : OutsideScope first first_body m s)
-      → (scope_in second m s ≡ some outside.scope) × (Inside second second_body m s → ⊥)
-  pub types : (m t : ℕ) (type : TypeExpr) → OutsideType first first_body asked m t → type_in first m t ≡ some type
-      → (type_in second m t ≡ some type) × OutsideType second second_body asked m t
+      → (scope_in second m s ≡ Some outside.scope) × (Inside second second_body m s → ⊥)
+  pub types : (m t : ℕ) (type : TypeExpr) → OutsideType first first_body asked m t → type_in first m t ≡ Some type
+      → (type_in second m t ≡ Some type) × OutsideType second second_body asked m t
   pub definitions : (m d : ℕ) (outside : OutsideDefinition first first_body m d)
-      → (definition_in second m d ≡ some outside.definition) × (Inside second second_body m outside.definition.scope → ⊥)
+      → (definition_in second m d ≡ Some outside.definition) × (Inside second second_body m outside.definition.scope → ⊥)
   pub expressions : (m e : ℕ) (outside : OutsideExpression first first_body m e)
-      → (expression_in second m e ≡ some outside.expression) × (Inside second second_body m outside.expression.scope → ⊥)
+      → (expression_in second m e ≡ Some outside.expression) × (Inside second second_body m outside.expression.scope → ⊥)
 
 -- "Two agree if each record outside in either stands in the other, outside too"; "two indexes that agree have one version"
 pub record Agree (first second : Index) (first_body second_body : Body) (asked : Asked) : Type 0 where
@@ -52,8 +52,8 @@ pub record FilesSupposed (first_file second_file : Text) (first_place second_pla
   pub second : Index
   pub first_loaded : load first_file ≡ accepted first
   pub second_loaded : load second_file ≡ accepted second
-  pub first_asked : get_elem? first.questions first_place ≡ some question
-  pub second_asked : get_elem? second.questions second_place ≡ some question
+  pub first_asked : slice_get first.questions first_place ≡ Some question
+  pub second_asked : slice_get second.questions second_place ≡ Some question
   pub asks : Asks question asked
   pub first_body : Body
   pub second_body : Body
@@ -92,7 +92,7 @@ BodiesAreHidden =
 -- "Demand 3 also bars an outside `lit` as operand of a `bin` inside". (The theorem holds without it)
 abbrev pub NoOutsideLiteralInBinary : Index → Body → Type 0
 NoOutsideLiteralInBinary index body =
-    (m e operand : ℕ) (inside : ExpressionInfo) → expression_in index m e ≡ some inside → Inside index body m inside.scope
+    (m e operand : ℕ) (inside : ExpressionInfo) → expression_in index m e ≡ Some inside → Inside index body m inside.scope
     → (op : BinaryOp) (left right : Option ℕ) → inside.node ≡ Expression.Binary op left right → Memᴰ operand (link left ++ link right)
     → (outside : OutsideExpression index body m operand) (suffix : Option Name) → outside.expression.node ≡ Expression.Literal suffix → ⊥
 

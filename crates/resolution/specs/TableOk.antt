@@ -2,8 +2,8 @@
 -- Assumes nothing.
 use Rattle.std.specs.Prelude.{ℕ, ◌≤◌, ◌<◌, ◌≡◌, length}
 use mathlib.Core.List.{List, [], ◌∷◌, ◌++◌, map, Memᴰ}
-use Rattle.std.proofs.Math.Option.{Option, none, some}
-use Rattle.std.proofs.Math.ListN.{get_elem?}
+use Rattle.std.specs.Prelude.{Option, None, Some}
+use Rattle.std.specs.Prelude.{slice_get}
 use Rattle.resolution.specs.TypeData.{TypeData}
 use Rattle.resolution.specs.Types.{Table, first_table, table_items, max_types, max_type_items}
 use Rattle.resolution.specs.Programs.{Demand, Answer, Said}
@@ -30,9 +30,9 @@ pub record Extends (table after : Table) : Type 0 where
 pub record TableOk (table : Table) : Type 0 where
   pub start : Extends first_table table
   -- an element's number is below its holder's
-  pub lower : (k t : ℕ) (row : TypeData) → get_elem? table k ≡ some row → Memᴰ t (row_types row) → t < k
+  pub lower : (k t : ℕ) (row : TypeData) → slice_get table k ≡ Some row → Memᴰ t (row_types row) → t < k
   -- equal types one number
-  pub one_number : (j k : ℕ) (row : TypeData) → get_elem? table j ≡ some row → get_elem? table k ≡ some row → j ≡ k
+  pub one_number : (j k : ℕ) (row : TypeData) → slice_get table j ≡ Some row → slice_get table k ≡ Some row → j ≡ k
   pub few_types : length table ≤ max_types
   pub few_items : table_items table ≤ max_type_items
 
@@ -41,8 +41,8 @@ abbrev pub Below : Table → ℕ → Type 0
 Below table t = t < length table
 
 abbrev pub OptionBelow : Table → Option ℕ → Type 0
-OptionBelow table none = Unit {0}
-OptionBelow table (some t) = Below table t
+OptionBelow table None = Unit {0}
+OptionBelow table (Some t) = Below table t
 
 -- a demand's context is a type of the table
 abbrev pub DemandOk : Table → Demand → Type 0

@@ -1,7 +1,7 @@
 -- The five tracked functions of `type_resolution.rs` as programs, in the Rust's order of evaluation. Assumes nothing.
 use Rattle.std.specs.Prelude.{ℕ, suc, Bool, true, false, List, [], ◌∷◌, eqb, length}
-use Rattle.std.proofs.Math.Option.{Option, none, some}
-use Rattle.std.proofs.Math.ListN.{get_elem?}
+use Rattle.std.specs.Prelude.{Option, None, Some}
+use Rattle.std.specs.Prelude.{slice_get}
 use Rattle.model.specs.Common.{Text, bytes}
 use Rattle.model.specs.Records.{Name, TypeExpr, DefinitionKind, Origin, UnaryOp, BinaryOp, Expression, ExpressionInfo, Module, Index}
 use Rattle.model.specs.Lookups.{
@@ -48,24 +48,24 @@ infer_only m child context =
 unfoldable pub infer_arguments : ℕ → List ℕ → ℕ → List (Option ℕ) → Program (Unit {0})
 infer_arguments m params index [] = done tt
 infer_arguments m params index (arg ∷ args) = do
-  infer_only m arg (get_elem? params index)
+  infer_only m arg (slice_get params index)
   infer_arguments m params (suc index) args
 
 -- each element of a tuple that is there, with its context; the first stands at the index
 unfoldable pub infer_elements : ℕ → List ℕ → ℕ → List (Option ℕ) → Program (List ℕ)
 infer_elements m contexts index [] = done []
-infer_elements m contexts index (none ∷ elements) = infer_elements m contexts (suc index) elements
-infer_elements m contexts index (some element ∷ elements) = do
-  t ← expression_semantic_type m element (get_elem? contexts index)
+infer_elements m contexts index (None ∷ elements) = infer_elements m contexts (suc index) elements
+infer_elements m contexts index (Some element ∷ elements) = do
+  t ← expression_semantic_type m element (slice_get contexts index)
   ts ← infer_elements m contexts (suc index) elements
   done (t ∷ ts)
 
 -- the elements of an array after the first, up to one that is missing or doesn't fit
 unfoldable pub all_same_type : ℕ → ℕ → List (Option ℕ) → Program Bool
 all_same_type m element_type [] = done true
-all_same_type m element_type (none ∷ elements) = done false
-all_same_type m element_type (some element ∷ elements) = do
-  t ← expression_semantic_type m element (some element_type)
+all_same_type m element_type (None ∷ elements) = done false
+all_same_type m element_type (Some element ∷ elements) = do
+  t ← expression_semantic_type m element (Some element_type)
   look λ table.
       when are_types_compatible table t element_type then all_same_type m element_type elements else done false
 
@@ -114,21 +114,21 @@ type_program index m t s =
 
 -- `resolve_variable_type`
 unfoldable pub resolve_variable_type : ℕ → ℕ → Option ℕ → Option ℕ → Program ℕ
-resolve_variable_type m s (some t) e = resolve_ast_type m t s
-resolve_variable_type m s none (some e) = expression_semantic_type m e none
-resolve_variable_type m s none none = done unknown
+resolve_variable_type m s (Some t) e = resolve_ast_type m t s
+resolve_variable_type m s None (Some e) = expression_semantic_type m e None
+resolve_variable_type m s None None = done unknown
 
 -- with a destructured value, along its path
 unfoldable pub let_type : ℕ → ℕ → Option ℕ → Option ℕ → Option ℕ → List ℕ → Program ℕ
-let_type m s t e none path = resolve_variable_type m s t e
-let_type m s t e (some v) path = do
-  current ← expression_semantic_type m v none
+let_type m s t e None path = resolve_variable_type m s t e
+let_type m s t e (Some v) path = do
+  current ← expression_semantic_type m v None
   look λ table. done (navigate table current path)
 
 unfoldable pub const_type : ℕ → ℕ → Option ℕ → Option ℕ → Program ℕ
-const_type m s (some t) e = resolve_ast_type m t s
-const_type m s none (some e) = expression_semantic_type m e none
-const_type m s none none = done error
+const_type m s (Some t) e = resolve_ast_type m t s
+const_type m s None (Some e) = expression_semantic_type m e None
+const_type m s None None = done error
 
 -- "A `use` looks in the other module's root scope"
 unfoldable pub use_type : Index → Name → Name → Program ℕ
@@ -164,53 +164,53 @@ unfoldable pub struct_kind_data : ℕ → ℕ → ℕ → DefinitionKind → Pro
 struct_kind_data m d s (DefinitionKind.Struct fields) = do
   types ← resolve_all m s (field_types fields)
   t ← type_id_new (TypeData.Struct m d (typed_fields fields types))
-  done (some t)
-struct_kind_data m d s (DefinitionKind.Function t params) = done none
-struct_kind_data m d s (DefinitionKind.Parameter t) = done none
-struct_kind_data m d s (DefinitionKind.Let t e v path) = done none
-struct_kind_data m d s (DefinitionKind.Const t e) = done none
-struct_kind_data m d s (DefinitionKind.Use imported_module item) = done none
-struct_kind_data m d s DefinitionKind.LoopVariable = done none
+  done (Some t)
+struct_kind_data m d s (DefinitionKind.Function t params) = done None
+struct_kind_data m d s (DefinitionKind.Parameter t) = done None
+struct_kind_data m d s (DefinitionKind.Let t e v path) = done None
+struct_kind_data m d s (DefinitionKind.Const t e) = done None
+struct_kind_data m d s (DefinitionKind.Use imported_module item) = done None
+struct_kind_data m d s DefinitionKind.LoopVariable = done None
 
 unfoldable pub struct_program : Index → ℕ → ℕ → Program (Option ℕ)
 struct_program index m d =
-    let_some (module_at index m) (done none) λ the_module.
-    let_some (definition_at the_module d) (done none) λ definition. struct_kind_data m d definition.scope definition.kind
+    let_some (module_at index m) (done None) λ the_module.
+    let_some (definition_at the_module d) (done None) λ definition. struct_kind_data m d definition.scope definition.kind
 
 -- "a finished signature enters as its function type"
 unfoldable pub function_kind_signature : ℕ → ℕ → ℕ → DefinitionKind → Program (Option ℕ)
-function_kind_signature m d s (DefinitionKind.Struct fields) = done none
+function_kind_signature m d s (DefinitionKind.Struct fields) = done None
 function_kind_signature m d s (DefinitionKind.Function return_t params) = do
   param_types ← resolve_all m s (field_types params)
   return_type ← resolve_ast_type m return_t s
   t ← type_id_new (TypeData.Function m d param_types return_type)
-  done (some t)
-function_kind_signature m d s (DefinitionKind.Parameter t) = done none
-function_kind_signature m d s (DefinitionKind.Let t e v path) = done none
-function_kind_signature m d s (DefinitionKind.Const t e) = done none
-function_kind_signature m d s (DefinitionKind.Use imported_module item) = done none
-function_kind_signature m d s DefinitionKind.LoopVariable = done none
+  done (Some t)
+function_kind_signature m d s (DefinitionKind.Parameter t) = done None
+function_kind_signature m d s (DefinitionKind.Let t e v path) = done None
+function_kind_signature m d s (DefinitionKind.Const t e) = done None
+function_kind_signature m d s (DefinitionKind.Use imported_module item) = done None
+function_kind_signature m d s DefinitionKind.LoopVariable = done None
 
 unfoldable pub signature_program : Index → ℕ → ℕ → Program (Option ℕ)
 signature_program index m d =
-    let_some (module_at index m) (done none) λ the_module.
-    let_some (definition_at the_module d) (done none) λ definition.
+    let_some (module_at index m) (done None) λ the_module.
+    let_some (definition_at the_module d) (done None) λ definition.
     function_kind_signature m d definition.scope definition.kind
 
 -- ------------------------------------------------------------------ expression_semantic_type: the context
 
 -- `signature_id.params(db)` and `signature_id.return_type(db)` of a signature that was answered
 unfoldable pub signature_param : Option ℕ → ℕ → Program (Option ℕ)
-signature_param none index = done none
-signature_param (some t) index = do
+signature_param None index = done None
+signature_param (Some t) index = do
   row ← type_data t
-  let_some (as_function row) (done none) λ signature. done (get_elem? signature.params index)
+  let_some (as_function row) (done None) λ signature. done (slice_get signature.params index)
 
 unfoldable pub signature_return_type : Option ℕ → Program (Option ℕ)
-signature_return_type none = done none
-signature_return_type (some t) = do
+signature_return_type None = done None
+signature_return_type (Some t) = do
   row ← type_data t
-  let_some (as_function row) (done none) λ signature. done (some signature.return_type)
+  let_some (as_function row) (done None) λ signature. done (Some signature.return_type)
 
 -- "`assign` helps only an unsuffixed literal"
 unfoldable pub assignment_context : ℕ → Expression → ℕ → Program (Option ℕ)
@@ -218,59 +218,59 @@ assignment_context m node lhs =
     when is_unsuffixed_literal node
     then
     (do
-      t ← expression_semantic_type m lhs none
-      done (some t))
-    else done none
+      t ← expression_semantic_type m lhs None
+      done (Some t))
+    else done None
 
 -- "`arg` and `field` see through no `use`". Whatever definition the callee records, its signature is demanded
 unfoldable pub argument_context : ℕ → Module → ℕ → ℕ → Program (Option ℕ)
 argument_context m the_module callee index =
-    let_some (expression_at the_module callee) (done none) λ callee_info.
-    let_some (as_identifier callee_info.node) (done none) λ name.
-    let_some (definition_for_identifier_expr the_module callee) (done none) λ d. do
+    let_some (expression_at the_module callee) (done None) λ callee_info.
+    let_some (as_identifier callee_info.node) (done None) λ name.
+    let_some (definition_for_identifier_expr the_module callee) (done None) λ d. do
       signature ← function_semantic_signature m d
       signature_param signature index
 
 -- "the return type of the first function definition whose scope is the expression's or an ancestor"
 unfoldable pub return_context : ℕ → Module → ℕ → Program (Option ℕ)
 return_context m the_module s =
-    let_some (first_function_around the_module s) (done none) λ d. do
+    let_some (first_function_around the_module s) (done None) λ d. do
       signature ← function_semantic_signature m d
       signature_return_type signature
 
 -- "`arg` and `field` see through no `use`". The field's T is resolved in the literal's scope
 unfoldable pub field_context : ℕ → Module → ℕ → Name → Program (Option ℕ)
 field_context m the_module parent field =
-    let_some (expression_at the_module parent) (done none) λ parent_info.
-    let_some (as_struct_literal parent_info.node) (done none) λ literal.
+    let_some (expression_at the_module parent) (done None) λ parent_info.
+    let_some (as_struct_literal parent_info.node) (done None) λ literal.
     let_some
     (resolve_name_at_position the_module literal.name parent_info.scope literal.start literal.end)
-    (done none)
+    (done None)
     λ d.
-    let_some (definition_at the_module d) (done none) λ definition.
-    let_some (struct_field definition.kind field) (done none) λ t. do
+    let_some (definition_at the_module d) (done None) λ definition.
+    let_some (struct_field definition.kind field) (done None) λ t. do
       type ← resolve_ast_type m t parent_info.scope
-      done (some type)
+      done (Some type)
 
 unfoldable pub context_from_origin : ℕ → Module → ExpressionInfo → Origin → Program (Option ℕ)
-context_from_origin m the_module expr_info Origin.Plain = done none
+context_from_origin m the_module expr_info Origin.Plain = done None
 context_from_origin m the_module expr_info (Origin.AssignmentRhs lhs) = assignment_context m expr_info.node lhs
 context_from_origin m the_module expr_info (Origin.Arg callee index) = argument_context m the_module callee index
-context_from_origin m the_module expr_info Origin.Condition = done (some bool)
+context_from_origin m the_module expr_info Origin.Condition = done (Some bool)
 context_from_origin m the_module expr_info Origin.ReturnExpr = return_context m the_module expr_info.scope
 context_from_origin m the_module expr_info (Origin.StructField parent field) = field_context m the_module parent field
 
 -- "A given context overrides the origin"
 unfoldable pub context_expected : ℕ → Module → ExpressionInfo → Option ℕ → Program (Option ℕ)
-context_expected m the_module expr_info (some t) = done (some t)
-context_expected m the_module expr_info none = context_from_origin m the_module expr_info expr_info.origin
+context_expected m the_module expr_info (Some t) = done (Some t)
+context_expected m the_module expr_info None = context_from_origin m the_module expr_info expr_info.origin
 
 -- ------------------------------------------------------------------ expression_semantic_type: the nodes
 
 -- the expected T, if it resolves to u32 or felt
 unfoldable pub expected_numeric : ℕ → ExpressionInfo → Program (Option ℕ)
 expected_numeric m expr_info =
-    let_some expr_info.expected (done none) λ type_ast. do
+    let_some expr_info.expected (done None) λ type_ast. do
       expected_type ← resolve_ast_type m type_ast expr_info.scope
       look λ table. done (numeric table expected_type)
 
@@ -303,7 +303,7 @@ identifier_type m the_module expr_info name =
 
 unfoldable pub new_type : ℕ → ℕ → ℕ → Option ℕ → Program ℕ
 new_type m s t count = do
-  infer_only m count (some felt)
+  infer_only m count (Some felt)
   element ← resolve_ast_type m t s
   type_id_new (TypeData.Pointer element)
 
@@ -321,17 +321,17 @@ binary_type m the_module context op left right =
     then
     (do
       right_type ← expression_semantic_type m right_id context
-      left_type ← expression_semantic_type m left_id (some right_type)
+      left_type ← expression_semantic_type m left_id (Some right_type)
       look λ table. done (binary_result table binary_op_signatures op left_type right_type))
     else do
       left_type ← expression_semantic_type m left_id context
-      right_type ← expression_semantic_type m right_id (some left_type)
+      right_type ← expression_semantic_type m right_id (Some left_type)
       look λ table. done (binary_result table binary_op_signatures op left_type right_type)
 
 unfoldable pub member_type : ℕ → Option ℕ → Name → Program ℕ
 member_type m object field =
     let_some object (done error) λ object_id. do
-      object_type ← expression_semantic_type m object_id none
+      object_type ← expression_semantic_type m object_id None
       row ← type_data object_type
       let_some (as_struct row) (done error) λ fields. let_some (field_type fields field) (done error) done
 
@@ -341,7 +341,7 @@ call_type m the_module callee args =
     then done unit
     else
     let_some callee (done error) λ callee_id. do
-      callee_type ← expression_semantic_type m callee_id none
+      callee_type ← expression_semantic_type m callee_id None
       row ← type_data callee_type
       let_some (as_function row) (done error) λ signature. do
         infer_arguments m signature.params 0 args
@@ -357,8 +357,8 @@ struct_literal_type m the_module s name start end =
 unfoldable pub index_type : ℕ → Option ℕ → Option ℕ → Program ℕ
 index_type m array index =
     let_some array (done error) λ array_id. do
-      array_type ← expression_semantic_type m array_id none
-      infer_only m index (some felt)
+      array_type ← expression_semantic_type m array_id None
+      infer_only m index (Some felt)
       row ← type_data array_type
       let_some (as_array row) (let_some (as_pointer row) (done error) done) λ element. done element.element
 
@@ -370,9 +370,9 @@ tuple_type m context elements = look λ table. do
 unfoldable pub tuple_index_type : ℕ → Option ℕ → ℕ → Program ℕ
 tuple_index_type m tuple index =
     let_some tuple missing_child λ tuple_id. do
-      tuple_ty ← expression_semantic_type m tuple_id none
+      tuple_ty ← expression_semantic_type m tuple_id None
       row ← type_data tuple_ty
-      let_some (as_tuple row) (done error) λ elements. let_some (get_elem? elements index) (done error) done
+      let_some (as_tuple row) (done error) λ elements. let_some (slice_get elements index) (done error) done
 
 -- an empty array without an array as context: its expected T, if that is an array of size 0
 unfoldable pub empty_array_type : ℕ → ExpressionInfo → Program ℕ
@@ -443,7 +443,7 @@ expression_in_context index m e t =
     let_some (module_at index m) (done error) λ the_module.
     let_some (expression_at the_module e) (done error) λ expr_info. do
       context ← resolve_ast_type m t expr_info.scope
-      expression_semantic_type m e (some context)
+      expression_semantic_type m e (Some context)
 
 -- the line says a type
 unfoldable pub says_type : Program ℕ → Program Said
@@ -460,7 +460,7 @@ none_said = Said.word none_word
 
 -- the change request of `at`: "`none` when no expression covers the byte or the module is absent. The chosen expression is typed as by `expr` without context"
 unfoldable pub says_at : ℕ → Option ℕ → Program Said
-says_at m found = let_some found (done none_said) λ e. says_type (expression_semantic_type m e none)
+says_at m found = let_some found (done none_said) λ e. says_type (expression_semantic_type m e None)
 
 unfoldable pub at_program : Index → ℕ → ℕ → Program Said
 at_program index m position =
@@ -469,8 +469,8 @@ at_program index m position =
 
 -- "An absent module, expression or definition in a question gives `error`"; at a byte it gives `none`
 unfoldable pub asked_program : Index → Asked → Program Said
-asked_program index (Asked.expr m e none) = says_type (expression_semantic_type m e none)
-asked_program index (Asked.expr m e (some t)) = says_type (expression_in_context index m e t)
+asked_program index (Asked.expr m e None) = says_type (expression_semantic_type m e None)
+asked_program index (Asked.expr m e (Some t)) = says_type (expression_in_context index m e t)
 asked_program index (Asked.def m d) = says_type (definition_semantic_type m d)
 asked_program index (Asked.type m t s) = says_type (resolve_ast_type m t s)
 asked_program index (Asked.at m position) = at_program index m position

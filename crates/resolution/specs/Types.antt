@@ -1,6 +1,6 @@
 -- The types of one question (`types.rs`): a table of rows, in which equal types have one number. Assumes nothing.
 use Rattle.std.specs.Prelude.{ℕ, ◌+◌, Bool, true, false, ◌&&◌, ◌||◌, List, [], ◌∷◌, map, eqb, leb, ltb, length, get_or}
-use Rattle.std.proofs.Math.Option.{Option, none, some}
+use Rattle.std.specs.Prelude.{Option, None, Some}
 use Rattle.std.specs.Prelude.{if◌then◌else◌}
 use Rattle.model.specs.Common.{first, eq_numbers}
 use Rattle.model.specs.Records.{Name, NameWithType}
@@ -69,29 +69,29 @@ is_error_or_unknown row = eqb (kind_number row) (kind_number TypeData.Error) || 
 
 -- the elements of a tuple
 unfoldable pub as_tuple : TypeData → Option (List ℕ)
-as_tuple TypeData.Felt = none
-as_tuple TypeData.Bool = none
-as_tuple TypeData.U32 = none
-as_tuple TypeData.Unknown = none
-as_tuple TypeData.Error = none
-as_tuple (TypeData.Tuple ts) = some ts
-as_tuple (TypeData.Pointer t) = none
-as_tuple (TypeData.FixedArray t size) = none
-as_tuple (TypeData.Struct m d fields) = none
-as_tuple (TypeData.Function m d params t) = none
+as_tuple TypeData.Felt = None
+as_tuple TypeData.Bool = None
+as_tuple TypeData.U32 = None
+as_tuple TypeData.Unknown = None
+as_tuple TypeData.Error = None
+as_tuple (TypeData.Tuple ts) = Some ts
+as_tuple (TypeData.Pointer t) = None
+as_tuple (TypeData.FixedArray t size) = None
+as_tuple (TypeData.Struct m d fields) = None
+as_tuple (TypeData.Function m d params t) = None
 
 -- the element of a pointer
 unfoldable pub as_pointer : TypeData → Option ℕ
-as_pointer TypeData.Felt = none
-as_pointer TypeData.Bool = none
-as_pointer TypeData.U32 = none
-as_pointer TypeData.Unknown = none
-as_pointer TypeData.Error = none
-as_pointer (TypeData.Tuple ts) = none
-as_pointer (TypeData.Pointer t) = some t
-as_pointer (TypeData.FixedArray t size) = none
-as_pointer (TypeData.Struct m d fields) = none
-as_pointer (TypeData.Function m d params t) = none
+as_pointer TypeData.Felt = None
+as_pointer TypeData.Bool = None
+as_pointer TypeData.U32 = None
+as_pointer TypeData.Unknown = None
+as_pointer TypeData.Error = None
+as_pointer (TypeData.Tuple ts) = None
+as_pointer (TypeData.Pointer t) = Some t
+as_pointer (TypeData.FixedArray t size) = None
+as_pointer (TypeData.Struct m d fields) = None
+as_pointer (TypeData.Function m d params t) = None
 
 pub record Array : Type 0 where
   pub element : ℕ
@@ -99,29 +99,29 @@ pub record Array : Type 0 where
 
 -- the element and the size of an array
 unfoldable pub as_array : TypeData → Option Array
-as_array TypeData.Felt = none
-as_array TypeData.Bool = none
-as_array TypeData.U32 = none
-as_array TypeData.Unknown = none
-as_array TypeData.Error = none
-as_array (TypeData.Tuple ts) = none
-as_array (TypeData.Pointer t) = none
-as_array (TypeData.FixedArray t size) = some (record { element = t; size = size })
-as_array (TypeData.Struct m d fields) = none
-as_array (TypeData.Function m d params t) = none
+as_array TypeData.Felt = None
+as_array TypeData.Bool = None
+as_array TypeData.U32 = None
+as_array TypeData.Unknown = None
+as_array TypeData.Error = None
+as_array (TypeData.Tuple ts) = None
+as_array (TypeData.Pointer t) = None
+as_array (TypeData.FixedArray t size) = Some (record { element = t; size = size })
+as_array (TypeData.Struct m d fields) = None
+as_array (TypeData.Function m d params t) = None
 
 -- the fields of a struct
 unfoldable pub as_struct : TypeData → Option (List NameWithType)
-as_struct TypeData.Felt = none
-as_struct TypeData.Bool = none
-as_struct TypeData.U32 = none
-as_struct TypeData.Unknown = none
-as_struct TypeData.Error = none
-as_struct (TypeData.Tuple ts) = none
-as_struct (TypeData.Pointer t) = none
-as_struct (TypeData.FixedArray t size) = none
-as_struct (TypeData.Struct m d fields) = some fields
-as_struct (TypeData.Function m d params t) = none
+as_struct TypeData.Felt = None
+as_struct TypeData.Bool = None
+as_struct TypeData.U32 = None
+as_struct TypeData.Unknown = None
+as_struct TypeData.Error = None
+as_struct (TypeData.Tuple ts) = None
+as_struct (TypeData.Pointer t) = None
+as_struct (TypeData.FixedArray t size) = None
+as_struct (TypeData.Struct m d fields) = Some fields
+as_struct (TypeData.Function m d params t) = None
 
 pub record Signature : Type 0 where
   pub params : List ℕ
@@ -129,22 +129,22 @@ pub record Signature : Type 0 where
 
 -- the signature of a function
 unfoldable pub as_function : TypeData → Option Signature
-as_function TypeData.Felt = none
-as_function TypeData.Bool = none
-as_function TypeData.U32 = none
-as_function TypeData.Unknown = none
-as_function TypeData.Error = none
-as_function (TypeData.Tuple ts) = none
-as_function (TypeData.Pointer t) = none
-as_function (TypeData.FixedArray t size) = none
-as_function (TypeData.Struct m d fields) = none
-as_function (TypeData.Function m d params t) = some (record { params = params; return_type = t })
+as_function TypeData.Felt = None
+as_function TypeData.Bool = None
+as_function TypeData.U32 = None
+as_function TypeData.Unknown = None
+as_function TypeData.Error = None
+as_function (TypeData.Tuple ts) = None
+as_function (TypeData.Pointer t) = None
+as_function (TypeData.FixedArray t size) = None
+as_function (TypeData.Struct m d fields) = None
+as_function (TypeData.Function m d params t) = Some (record { params = params; return_type = t })
 
 -- the type of the first field of the name: `field_type` of a struct type, where the number is a row's, and `fields_ast.iter().find(..)` of a
 -- struct definition, where it is a T's
 unfoldable pub field_type : List NameWithType → Name → Option ℕ
-field_type [] name = none
-field_type (field ∷ fields) name = if eq_numbers field.name name then some field.type else field_type fields name
+field_type [] name = None
+field_type (field ∷ fields) name = if eq_numbers field.name name then Some field.type else field_type fields name
 
 -- ------------------------------------------------------------------ the table
 

@@ -1,7 +1,7 @@
 -- What the resolution functions read without asking: what a record is, and what a row of the table is. Assumes nothing.
 use Rattle.std.specs.Prelude.{ℕ, Bool, true, false, not, ◌&&◌, List, [], ◌∷◌, eqb, length}
-use Rattle.std.proofs.Math.Option.{Option, none, some}
-use Rattle.std.proofs.Math.ListN.{get_elem?}
+use Rattle.std.specs.Prelude.{Option, None, Some}
+use Rattle.std.specs.Prelude.{slice_get}
 use Rattle.std.specs.Prelude.{if◌then◌else◌}
 use Rattle.model.specs.Common.{let_some, eq_numbers, bytes}
 use Rattle.model.specs.Records.{Name, TypeExpr, NameWithType, DefinitionKind, BinaryOp, Expression, Module}
@@ -23,8 +23,8 @@ is_array_expr (TypeExpr.FixedArray t size) = true
 
 -- `Expression::Literal(_, None)`
 unfoldable pub is_unsuffixed_literal : Expression → Bool
-is_unsuffixed_literal (Expression.Literal none) = true
-is_unsuffixed_literal (Expression.Literal (some suffix)) = false
+is_unsuffixed_literal (Expression.Literal None) = true
+is_unsuffixed_literal (Expression.Literal (Some suffix)) = false
 is_unsuffixed_literal Expression.BooleanLiteral = false
 is_unsuffixed_literal (Expression.Identifier name) = false
 is_unsuffixed_literal (Expression.Unary op e) = false
@@ -43,22 +43,22 @@ is_unsuffixed_literal (Expression.Parenthesized inner) = false
 
 -- the name of an identifier
 unfoldable pub as_identifier : Expression → Option Name
-as_identifier (Expression.Literal suffix) = none
-as_identifier Expression.BooleanLiteral = none
-as_identifier (Expression.Identifier name) = some name
-as_identifier (Expression.Unary op e) = none
-as_identifier (Expression.Binary op left right) = none
-as_identifier (Expression.FunctionCall callee args) = none
-as_identifier (Expression.MemberAccess object field) = none
-as_identifier (Expression.IndexAccess array index) = none
-as_identifier (Expression.StructLiteral name start end) = none
-as_identifier (Expression.Tuple elements) = none
-as_identifier (Expression.TupleIndex tuple index) = none
-as_identifier (Expression.ArrayLiteral elements) = none
-as_identifier (Expression.ArrayRepeat element count) = none
-as_identifier (Expression.Cast t) = none
-as_identifier (Expression.New t count) = none
-as_identifier (Expression.Parenthesized inner) = none
+as_identifier (Expression.Literal suffix) = None
+as_identifier Expression.BooleanLiteral = None
+as_identifier (Expression.Identifier name) = Some name
+as_identifier (Expression.Unary op e) = None
+as_identifier (Expression.Binary op left right) = None
+as_identifier (Expression.FunctionCall callee args) = None
+as_identifier (Expression.MemberAccess object field) = None
+as_identifier (Expression.IndexAccess array index) = None
+as_identifier (Expression.StructLiteral name start end) = None
+as_identifier (Expression.Tuple elements) = None
+as_identifier (Expression.TupleIndex tuple index) = None
+as_identifier (Expression.ArrayLiteral elements) = None
+as_identifier (Expression.ArrayRepeat element count) = None
+as_identifier (Expression.Cast t) = None
+as_identifier (Expression.New t count) = None
+as_identifier (Expression.Parenthesized inner) = None
 
 -- a name with its span
 pub record SpannedName : Type 0 where
@@ -68,32 +68,32 @@ pub record SpannedName : Type 0 where
 
 -- the name of a struct literal
 unfoldable pub as_struct_literal : Expression → Option SpannedName
-as_struct_literal (Expression.Literal suffix) = none
-as_struct_literal Expression.BooleanLiteral = none
-as_struct_literal (Expression.Identifier name) = none
-as_struct_literal (Expression.Unary op e) = none
-as_struct_literal (Expression.Binary op left right) = none
-as_struct_literal (Expression.FunctionCall callee args) = none
-as_struct_literal (Expression.MemberAccess object field) = none
-as_struct_literal (Expression.IndexAccess array index) = none
-as_struct_literal (Expression.StructLiteral name start end) = some (record { name = name; start = start; end = end })
-as_struct_literal (Expression.Tuple elements) = none
-as_struct_literal (Expression.TupleIndex tuple index) = none
-as_struct_literal (Expression.ArrayLiteral elements) = none
-as_struct_literal (Expression.ArrayRepeat element count) = none
-as_struct_literal (Expression.Cast t) = none
-as_struct_literal (Expression.New t count) = none
-as_struct_literal (Expression.Parenthesized inner) = none
+as_struct_literal (Expression.Literal suffix) = None
+as_struct_literal Expression.BooleanLiteral = None
+as_struct_literal (Expression.Identifier name) = None
+as_struct_literal (Expression.Unary op e) = None
+as_struct_literal (Expression.Binary op left right) = None
+as_struct_literal (Expression.FunctionCall callee args) = None
+as_struct_literal (Expression.MemberAccess object field) = None
+as_struct_literal (Expression.IndexAccess array index) = None
+as_struct_literal (Expression.StructLiteral name start end) = Some (record { name = name; start = start; end = end })
+as_struct_literal (Expression.Tuple elements) = None
+as_struct_literal (Expression.TupleIndex tuple index) = None
+as_struct_literal (Expression.ArrayLiteral elements) = None
+as_struct_literal (Expression.ArrayRepeat element count) = None
+as_struct_literal (Expression.Cast t) = None
+as_struct_literal (Expression.New t count) = None
+as_struct_literal (Expression.Parenthesized inner) = None
 
 -- the t of a struct definition's field
 unfoldable pub struct_field : DefinitionKind → Name → Option ℕ
-struct_field (DefinitionKind.Function t params) name = none
+struct_field (DefinitionKind.Function t params) name = None
 struct_field (DefinitionKind.Struct fields) name = field_type fields name
-struct_field (DefinitionKind.Const t e) name = none
-struct_field (DefinitionKind.Let t e v path) name = none
-struct_field (DefinitionKind.Parameter t) name = none
-struct_field (DefinitionKind.Use m item) name = none
-struct_field DefinitionKind.LoopVariable name = none
+struct_field (DefinitionKind.Const t e) name = None
+struct_field (DefinitionKind.Let t e v path) name = None
+struct_field (DefinitionKind.Parameter t) name = None
+struct_field (DefinitionKind.Use m item) name = None
+struct_field DefinitionKind.LoopVariable name = None
 
 -- the fields of a struct, each with the number of its type
 unfoldable pub typed_fields : List NameWithType → List ℕ → List NameWithType
@@ -131,30 +131,30 @@ unfoldable pub navigate : Table → ℕ → List ℕ → ℕ
 navigate table current [] = current
 navigate table current (index ∷ path) =
     let_some (as_tuple (data_of table current)) error λ elements.
-    let_some (get_elem? elements index) error λ t. navigate table t path
+    let_some (slice_get elements index) error λ t. navigate table t path
 
 -- the type itself, if it is u32 or felt
 unfoldable pub numeric : Table → ℕ → Option ℕ
-numeric table t = if is_u32_or_felt (data_of table t) then some t else none
+numeric table t = if is_u32_or_felt (data_of table t) then Some t else None
 
 -- the context itself if it is u32 or felt, else felt
 unfoldable pub numeric_context : Table → Option ℕ → ℕ
-numeric_context table none = felt
-numeric_context table (some t) = let_some (numeric table t) felt (λ u. u)
+numeric_context table None = felt
+numeric_context table (Some t) = let_some (numeric table t) felt (λ u. u)
 
 -- the elements of a context that is a tuple of that length, else none
 unfoldable pub element_contexts : Table → Option ℕ → ℕ → List ℕ
-element_contexts table none count = []
-element_contexts table (some t) count =
+element_contexts table None count = []
+element_contexts table (Some t) count =
     let_some (as_tuple (data_of table t)) [] λ ts. if eqb (length ts) count then ts else []
 
 -- the element of a context that is an array
 unfoldable pub element_hint : Table → Option ℕ → Option ℕ
-element_hint table none = none
-element_hint table (some t) = let_some (as_array (data_of table t)) none λ array. some array.element
+element_hint table None = None
+element_hint table (Some t) = let_some (as_array (data_of table t)) None λ array. Some array.element
 
 -- u32 and felt, the suffixes that decide
 unfoldable pub suffix_type : Option Name → Option ℕ
-suffix_type none = none
-suffix_type (some suffix) =
-    if eq_numbers suffix (bytes "u32") then some u32 else if eq_numbers suffix (bytes "felt") then some felt else none
+suffix_type None = None
+suffix_type (Some suffix) =
+    if eq_numbers suffix (bytes "u32") then Some u32 else if eq_numbers suffix (bytes "felt") then Some felt else None

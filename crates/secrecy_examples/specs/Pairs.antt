@@ -10,7 +10,7 @@
 -- T that is not listed. (Two files that differ outside have no proof of `same`; that is not shown.) Assumes nothing.
 use Rattle.std.specs.Prelude.{ℕ, ◌≡◌, refl, Bool, true, false, List, [], ◌∷◌, map}
 use Prim.Native.String.{String}
-use Rattle.std.proofs.Math.Option.{none, some}
+use Rattle.std.specs.Prelude.{None, Some}
 use Rattle.model.specs.Common.{tabs}
 use Rattle.model.specs.Records.{Question}
 use Rattle.format.specs.Computes.{loads}
@@ -48,9 +48,9 @@ pub c_same : SameLine (tabs one_file) (tabs other_file) 0 3 (Question.def 0 1) (
 unfolding loads tests index_in plain one_file other_file
 c_same = pair_same plain (Question.def 0 1) (Asked.def 0 1) 0 3 plain_agreeing refl refl refl refl refl
 
-pub value_same : SameLine (tabs one_file) (tabs other_file) 1 2 (Question.expr 0 0 (some 0)) (Asked.expr 0 0 (some 0))
+pub value_same : SameLine (tabs one_file) (tabs other_file) 1 2 (Question.expr 0 0 (Some 0)) (Asked.expr 0 0 (Some 0))
 unfolding loads tests index_in plain one_file other_file
-value_same = pair_same plain (Question.expr 0 0 (some 0)) (Asked.expr 0 0 (some 0)) 1 2 plain_agreeing refl refl refl refl refl
+value_same = pair_same plain (Question.expr 0 0 (Some 0)) (Asked.expr 0 0 (Some 0)) 1 2 plain_agreeing refl refl refl refl refl
 
 pub felt_same : SameLine (tabs one_file) (tabs other_file) 2 1 (Question.type 0 0 0) (Asked.type 0 0 0)
 unfolding loads tests index_in plain one_file other_file
@@ -88,9 +88,9 @@ pub deep_constant_same : SameLine (tabs three_deep) (tabs four_deep) 0 1 (Questi
 unfolding loads tests index_in deep three_deep four_deep
 deep_constant_same = pair_same deep (Question.def 0 2) (Asked.def 0 2) 0 1 deep_agreeing refl refl refl refl refl
 
-pub deep_sum_same : SameLine (tabs three_deep) (tabs four_deep) 1 3 (Question.expr 0 0 none) (Asked.expr 0 0 none)
+pub deep_sum_same : SameLine (tabs three_deep) (tabs four_deep) 1 3 (Question.expr 0 0 None) (Asked.expr 0 0 None)
 unfolding loads tests index_in deep three_deep four_deep
-deep_sum_same = pair_same deep (Question.expr 0 0 none) (Asked.expr 0 0 none) 1 3 deep_agreeing refl refl refl refl refl
+deep_sum_same = pair_same deep (Question.expr 0 0 None) (Asked.expr 0 0 None) 1 3 deep_agreeing refl refl refl refl refl
 
 pub deep_struct_same : SameLine (tabs three_deep) (tabs four_deep) 2 0 (Question.type 0 2 0) (Asked.type 0 2 0)
 unfolding loads tests index_in deep three_deep four_deep
@@ -126,9 +126,9 @@ unfolding loads tests index_in file_test between block_between loop_between
 between_agreeing = record { first_test = refl; second_test = refl; same = refl }
 
 -- `p.x` in g, the type P in g's scope, and g
-pub between_member_same : SameLine (tabs block_between) (tabs loop_between) 0 2 (Question.expr 0 3 none) (Asked.expr 0 3 none)
+pub between_member_same : SameLine (tabs block_between) (tabs loop_between) 0 2 (Question.expr 0 3 None) (Asked.expr 0 3 None)
 unfolding loads tests index_in between block_between loop_between
-between_member_same = pair_same between (Question.expr 0 3 none) (Asked.expr 0 3 none) 0 2 between_agreeing refl refl refl refl refl
+between_member_same = pair_same between (Question.expr 0 3 None) (Asked.expr 0 3 None) 0 2 between_agreeing refl refl refl refl refl
 
 pub between_struct_same : SameLine (tabs block_between) (tabs loop_between) 1 3 (Question.type 0 2 3) (Asked.type 0 2 3)
 unfolding loads tests index_in between block_between loop_between
@@ -316,9 +316,9 @@ unfoldable pub refused_lines : List Asked
 refused_lines =
     Asked.def 0 1
     ∷ Asked.def 0 2
-    ∷ Asked.expr 0 1 none
-    ∷ Asked.expr 0 2 none
-    ∷ Asked.expr 0 0 (some 1)
+    ∷ Asked.expr 0 1 None
+    ∷ Asked.expr 0 2 None
+    ∷ Asked.expr 0 0 (Some 1)
     ∷ Asked.type 0 0 1
     ∷ Asked.type 0 1 0
     ∷ Asked.type 0 2 0
@@ -331,7 +331,7 @@ unfolding loads tests index_in asked_file refused_lines
 lines_refused = refl
 
 -- the same of records outside passes, and of a byte that no expression inside covers, in an absent module too
-pub lines_taken : map is_taken (Asked.def 0 0 ∷ Asked.expr 0 0 none ∷ Asked.expr 0 0 (some 0) ∷ Asked.type 0 0 0 ∷ Asked.at 0 0 ∷ Asked.at 0 3 ∷ Asked.at 1 2 ∷ [])
+pub lines_taken : map is_taken (Asked.def 0 0 ∷ Asked.expr 0 0 None ∷ Asked.expr 0 0 (Some 0) ∷ Asked.type 0 0 0 ∷ Asked.at 0 0 ∷ Asked.at 0 3 ∷ Asked.at 1 2 ∷ [])
     ≡ true ∷ true ∷ true ∷ true ∷ true ∷ true ∷ true ∷ []
 unfolding loads tests index_in asked_file
 lines_taken = refl

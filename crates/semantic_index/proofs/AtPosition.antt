@@ -4,7 +4,7 @@ use native.Mathlib.Omega.{arith}
 use mathlib.Core.Path.{◌≡◌, sym, ap, ap₂, subst, ◌∙◌}
 use mathlib.Core.Bool.{Bool, true, false, ◌&&◌}
 use mathlib.Core.List.{List, [], ◌∷◌, ◌++◌}
-use mathlib.Core.Option.{Option, none, some}
+use Rattle.std.specs.Prelude.{Option, None, Some}
 use lib.Dec.{leb, ltb}
 use borrow.Author.Tests.{le-leb, lt-leb, lt-ltb, le-ltb}
 use Rattle.std.specs.Prelude.{if◌then◌else◌}
@@ -25,8 +25,8 @@ module _ (position number start end : ℕ) (x : ExpressionInfo) (is_start : star
 
   not_covering : (best : Option Best) → covers position x ≡ false → best ≡ turn position number best x
   unfolding turn better
-  not_covering none e = ap (λ b. if b then some (record { number = number; length = span x }) else none) (sym e)
-  not_covering (some best) e = ap (λ b. if (b && leb (span x) best.length) then some (record { number = number; length = span x }) else some best) (sym e)
+  not_covering None e = ap (λ b. if b then Some (record { number = number; length = span x }) else None) (sym e)
+  not_covering (Some best) e = ap (λ b. if (b && leb (span x) best.length) then Some (record { number = number; length = span x }) else Some best) (sym e)
 
   pub turn_before : (best : Option Best) → position < start → best ≡ turn position number best x
   turn_before best less = not_covering best (covers_is false (ap (λ b. b && ltb position end) (lt-leb start position less)))
@@ -43,22 +43,22 @@ module _ (position number start end : ℕ) (x : ExpressionInfo) (is_start : star
       its_span = ap₂ ◌-◌ is_end is_start
 
       abbrev found : ℕ → Option Best
-      found length = some (record { number = number; length = length })
+      found length = Some (record { number = number; length = length })
 
-      pub turn_first : found (end - start) ≡ turn position number none x
+      pub turn_first : found (end - start) ≡ turn position number None x
       unfolding turn better
-      turn_first = ap found its_span ∙ ap (λ b. if b then found (span x) else none) (sym covering)
+      turn_first = ap found its_span ∙ ap (λ b. if b then found (span x) else None) (sym covering)
 
-      pub turn_longer : (best : Best) → best.length < end - start → some best ≡ turn position number (some best) x
+      pub turn_longer : (best : Best) → best.length < end - start → Some best ≡ turn position number (Some best) x
       unfolding turn better
       turn_longer best less =
-          ap₂ (λ b c. if (b && c) then found (span x) else some best) (sym covering) (sym (lt-leb (span x) best.length (subst (λ n. best.length < n) its_span less)))
+          ap₂ (λ b c. if (b && c) then found (span x) else Some best) (sym covering) (sym (lt-leb (span x) best.length (subst (λ n. best.length < n) its_span less)))
 
-      pub turn_shorter : (best : Best) → end - start ≤ best.length → found (end - start) ≡ turn position number (some best) x
+      pub turn_shorter : (best : Best) → end - start ≤ best.length → found (end - start) ≡ turn position number (Some best) x
       unfolding turn better
       turn_shorter best least =
           ap found its_span
-          ∙ ap₂ (λ b c. if (b && c) then found (span x) else some best) (sym covering) (sym (le-leb (span x) best.length (subst (λ n. n ≤ best.length) its_span least)))
+          ∙ ap₂ (λ b c. if (b && c) then found (span x) else Some best) (sym covering) (sym (le-leb (span x) best.length (subst (λ n. n ≤ best.length) its_span least)))
 
 -- ------------------------------------------------------------------ the run
 
@@ -67,7 +67,7 @@ module _ (file words : List ℕ) (position from : ℕ) where
   abbrev pub KeptRows : ℕ → Option Best → Type 0
   KeptRows count best = Kept position (each (expression_row file words) from count) best
 
-  pub rows_start : KeptRows 0 none
+  pub rows_start : KeptRows 0 None
   unfolding each
   rows_start = kept_start position
 

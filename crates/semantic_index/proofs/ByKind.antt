@@ -3,7 +3,7 @@ use mathlib.Core.Path.{◌≡◌, refl}
 use mathlib.Core.Bool.{true, false}
 use Prim.Native.Nat.{ℕ}
 use mathlib.Core.List.{List, [], ◌∷◌}
-use mathlib.Core.Option.{none}
+use Rattle.std.specs.Prelude.{None}
 use types.Run.{miss}
 use borrow.Enum.Refused.{Among, opened}
 use denote.Enum.Declared.{tag_of}
@@ -22,7 +22,7 @@ other_than_function file words (DefinitionKind.Parameter t) h = refl
 other_than_function file words (DefinitionKind.Use m i) h = refl
 other_than_function file words DefinitionKind.LoopVariable h = refl
 
-pub other_than_let : (file words : List ℕ) (kind : DefinitionKind) → Among (0 ∷ 1 ∷ 2 ∷ 4 ∷ 5 ∷ 6 ∷ []) (tag_of the_type kind) → none ≡ let_value (definition_kind_of file words kind)
+pub other_than_let : (file words : List ℕ) (kind : DefinitionKind) → Among (0 ∷ 1 ∷ 2 ∷ 4 ∷ 5 ∷ 6 ∷ []) (tag_of the_type kind) → None ≡ let_value (definition_kind_of file words kind)
 unfolding let_value
 other_than_let file words (DefinitionKind.Function t l) h = refl
 other_than_let file words (DefinitionKind.Struct l) h = refl

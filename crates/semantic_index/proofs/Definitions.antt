@@ -4,7 +4,7 @@ use mathlib.Core.Bool.{Bool, true, false, not, ◌&&◌, ◌||◌}
 use Prim.Native.Nat.{ℕ, ◌+◌, ◌≤◌, ◌<◌}
 use native.Mathlib.Nat.{zero-add}
 use mathlib.Core.List.{List}
-use mathlib.Core.Option.{Option, none}
+use Rattle.std.specs.Prelude.{Option, None}
 use lib.Dec.{leb}
 use lib.ListN.{length}
 use borrow.Author.Tests.{eq-eqb, ne_eqb, le-leb, lt-leb}
@@ -70,10 +70,10 @@ module _ (s : ℕ) (name : Name) (definition : Definition) (x : ℕ) (is : x ≡
 -- ------------------------------------------------------------------ visibility
 
 abbrev recorded : Option ExpressionInfo → Option ℕ
-recorded o = let_some o none (λ expression. expression.definition)
+recorded o = let_some o None (λ expression. expression.definition)
 
 module _ (file words : List ℕ) (r : FoundExpression) (o : Option ExpressionInfo) (is : found_expression_of file words r ≡ o) where
-  pub recorded_absent : r ≡ FoundExpression.Absent → none ≡ recorded o
+  pub recorded_absent : r ≡ FoundExpression.Absent → None ≡ recorded o
   recorded_absent h = ap (λ r. recorded (found_expression_of file words r)) (sym h) ∙ ap recorded is
 
   pub recorded_found : (x : Info) → r ≡ FoundExpression.Found x → definition_link_of x.definition ≡ recorded o

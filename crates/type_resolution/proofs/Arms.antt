@@ -4,7 +4,7 @@ use mathlib.Core.Bool.{Bool, true, false, not}
 use Prim.Native.Nat.{ℕ, ◌<◌}
 use native.Mathlib.Omega.{arith}
 use mathlib.Core.List.{List}
-use mathlib.Core.Option.{Option, none, some}
+use Rattle.std.specs.Prelude.{Option, None, Some}
 use Rattle.model.specs.Common.{let_some as from_some}
 use Rattle.model.specs.Records as model
 use Rattle.records.specs.Meaning.{type_expr_of, definition_kind_of, definition_link_of, expression_of, origin_of, info_of, names_with_types_of}
@@ -143,8 +143,8 @@ module _ {file words : List ℕ} {depth : ℕ} {T : List ℕ} {O : List (List �
 -- what a read answers, as a link
 linked_is : (o : Option ℕ) (t : Table) → linked (linked_by o) t ≡ answered o t
 unfolding linked
-linked_is none t = refl
-linked_is (some n) t = refl
+linked_is None t = refl
+linked_is (Some n) t = refl
 
 read_linked : {file words : List ℕ} {depth : ℕ} {T : List ℕ} {O : List (List ℕ)} → Ready file words depth T O → (read : Table → Option ℕ) {r : Linked} → r ≡ linked_by (read (table_of file T))
     → Runs linked file words (look (λ table. done (read table))) depth T O T O r
@@ -154,7 +154,7 @@ read_linked {file} {T = T} ok read e =
 
 module _ {file words : List ℕ} {depth : ℕ} {T : List ℕ} {O : List (List ℕ)} {T' : List ℕ} {O' : List (List ℕ)} where
   pub known_runs : {p : Program ℕ} {x : Resolved} {r : Linked} → Runs typed file words p depth T O T' O' x → IsKnown x r
-      → Runs linked file words (p >>= (λ t. done (some t))) depth T O T' O' r
+      → Runs linked file words (p >>= (λ t. done (Some t))) depth T O T' O' r
   known_runs {x = Resolved.Answered t} a k = then_on a _ (is_typed refl) (ends a.ready (is_known k.same))
   known_runs {x = Resolved.Refused n} a k = then_stop a _ (is_refused refl) (not_linked k.same)
 
@@ -183,8 +183,8 @@ module _ {file words : List ℕ} {depth : ℕ} {T : List ℕ} {O : List (List �
 module _ {file words : List ℕ} {depth : ℕ} {T : List ℕ} {O : List (List ℕ)} (ok : Ready file words depth T O) where
   numeric_by : (o : Option ℕ) (context : Option ℕ) (n : ℕ) → n ≡ from_some o (numeric_context (table_of file T) context) (λ k. k)
       → Runs typed file words (let_some o (look (λ table. done (numeric_context table context))) done) depth T O T O (Resolved.Answered n)
-  numeric_by none context n e = none_runs none _ _ refl (look_runs _ (answers ok e))
-  numeric_by (some k) context n e = some_runs (some k) _ _ refl (answers ok e)
+  numeric_by None context n e = none_runs None _ _ refl (look_runs _ (answers ok e))
+  numeric_by (Some k) context n e = some_runs (Some k) _ _ refl (answers ok e)
 
   -- u32 and felt stay; else the context decides
   pub numeric_runs : {t n : ℕ} {context : Option ℕ} → NumericOr T t context n
@@ -193,11 +193,11 @@ module _ {file words : List ℕ} {depth : ℕ} {T : List ℕ} {O : List (List �
 
 -- whether a row is an array
 pub is_array : {file T : List ℕ} (t : ℕ) {r : FoundArray} {element size : ℕ} → Reads file T (array_read t) (found_array_of r) → r ≡ FoundArray.Found element size
-    → as_array (data_of (table_of file T) t) ≡ some (record { element = element; size = size })
+    → as_array (data_of (table_of file T) t) ≡ Some (record { element = element; size = size })
 unfolding array_read
 is_array t a e = sym a.same ∙ ap found_array_of e
 
-pub no_array : {file T : List ℕ} (t : ℕ) {r : FoundArray} → Reads file T (array_read t) (found_array_of r) → r ≡ FoundArray.Absent → as_array (data_of (table_of file T) t) ≡ none
+pub no_array : {file T : List ℕ} (t : ℕ) {r : FoundArray} → Reads file T (array_read t) (found_array_of r) → r ≡ FoundArray.Absent → as_array (data_of (table_of file T) t) ≡ None
 unfolding array_read
 no_array t a e = sym a.same ∙ ap found_array_of e
 
@@ -205,33 +205,33 @@ no_array t a e = sym a.same ∙ ap found_array_of e
 
 module _ {file words : List ℕ} {depth : ℕ} {T : List ℕ} {O : List (List ℕ)} {T' : List ℕ} {O' : List (List ℕ)} {r : Resolved} where
   module _ (m s : ℕ) (t e v : Option ℕ) (path : List ℕ) where
-    pub let_whole : v ≡ none → Runs typed file words (resolve_variable_type m s t e) depth T O T' O' r → Runs typed file words (let_type m s t e v path) depth T O T' O' r
+    pub let_whole : v ≡ None → Runs typed file words (resolve_variable_type m s t e) depth T O T' O' r → Runs typed file words (let_type m s t e v path) depth T O T' O' r
     unfolding let_type
     let_whole h a = subst⁻¹ (λ x. Runs typed file words (let_type m s t e x path) depth T O T' O' r) h a
 
     -- along the path of a destructured value
-    pub let_part : {x : ℕ} → v ≡ some x → Runs typed file words (expression_semantic_type m x none >>= (λ current. look (λ table. done (navigate_read current path table)))) depth T O T' O' r
+    pub let_part : {x : ℕ} → v ≡ Some x → Runs typed file words (expression_semantic_type m x None >>= (λ current. look (λ table. done (navigate_read current path table)))) depth T O T' O' r
         → Runs typed file words (let_type m s t e v path) depth T O T' O' r
     unfolding let_type navigate_read
     let_part h a = subst⁻¹ (λ y. Runs typed file words (let_type m s t e y path) depth T O T' O' r) h a
 
   module _ (m s : ℕ) (t e : Option ℕ) (otherwise : ℕ) where
-    pub declared_as : {x : ℕ} → Runs typed file words (resolve_ast_type m x s) depth T O T' O' r → t ≡ some x → Runs typed file words (declared_type m s t e otherwise) depth T O T' O' r
+    pub declared_as : {x : ℕ} → Runs typed file words (resolve_ast_type m x s) depth T O T' O' r → t ≡ Some x → Runs typed file words (declared_type m s t e otherwise) depth T O T' O' r
     unfolding declared_type
     declared_as a h = subst⁻¹ (λ y. Runs typed file words (declared_type m s y e otherwise) depth T O T' O' r) h a
 
-    pub valued_as : {x : ℕ} → Runs typed file words (expression_semantic_type m x none) depth T O T' O' r → t ≡ none → e ≡ some x
+    pub valued_as : {x : ℕ} → Runs typed file words (expression_semantic_type m x None) depth T O T' O' r → t ≡ None → e ≡ Some x
         → Runs typed file words (declared_type m s t e otherwise) depth T O T' O' r
     unfolding declared_type
     valued_as a h k =
         subst⁻¹ (λ y. Runs typed file words (declared_type m s y e otherwise) depth T O T' O' r) h
-        (subst⁻¹ (λ y. Runs typed file words (declared_type m s none y otherwise) depth T O T' O' r) k a)
+        (subst⁻¹ (λ y. Runs typed file words (declared_type m s None y otherwise) depth T O T' O' r) k a)
 
-    pub neither_as : Runs typed file words (done otherwise) depth T O T' O' r → t ≡ none → e ≡ none → Runs typed file words (declared_type m s t e otherwise) depth T O T' O' r
+    pub neither_as : Runs typed file words (done otherwise) depth T O T' O' r → t ≡ None → e ≡ None → Runs typed file words (declared_type m s t e otherwise) depth T O T' O' r
     unfolding declared_type
     neither_as a h k =
         subst⁻¹ (λ y. Runs typed file words (declared_type m s y e otherwise) depth T O T' O' r) h
-        (subst⁻¹ (λ y. Runs typed file words (declared_type m s none y otherwise) depth T O T' O' r) k a)
+        (subst⁻¹ (λ y. Runs typed file words (declared_type m s None y otherwise) depth T O T' O' r) k a)
 
 -- an answer that nobody looks at
 pub ignores : {file words : List ℕ} {depth : ℕ} {T : List ℕ} {O : List (List ℕ)} {T' : List ℕ} {O' : List (List ℕ)} {p : Program ℕ} {r : Resolved}
@@ -260,7 +260,7 @@ module _ {file words : List ℕ} {depth : ℕ} {T : List ℕ} {O : List (List �
   pub hint_found : (context : Option ℕ) (hint : FoundType) → Reads file T (element_hint_read context) (found_type_of hint) → HintBelow T hint
   hint_found context hint is = hint_by hint (hinted context (found_type_of hint) is)
 
-  pub element_below : (t : ℕ) {array : Array} → as_array (data_of (table_of file T) t) ≡ some array → array.element < type_count T
+  pub element_below : (t : ℕ) {array : Array} → as_array (data_of (table_of file T) t) ≡ Some array → array.element < type_count T
   element_below t {array} e =
       subst (λ n. array.element < n) (length_table file T) (array_below ok.ok (data_of (table_of file T) t) array e (row_below ok.ok t))
 

@@ -3,7 +3,7 @@ use mathlib.Core.Path.{◌≡◌, refl, sym, ap, subst, subst⁻¹, ◌∙◌}
 use Prim.Native.Nat.{ℕ, zero, suc, ◌+◌, ◌≤◌}
 use native.Mathlib.Omega.{arith}
 use mathlib.Core.List.{List, [], ◌∷◌, map}
-use mathlib.Core.Option.{Option, none, some}
+use Rattle.std.specs.Prelude.{Option, None, Some}
 use lib.ListN.{length, drop}
 use Rattle.model.specs.Common.{let_some as from_some}
 use Rattle.model.specs.Records.{Name, Module, Index, ExpressionInfo}
@@ -36,58 +36,58 @@ abbrev imported_as : ℕ → ℕ → Imported
 imported_as source n = record { source = source; definition = n }
 
 -- one choice behind another
-let_chain : {X Y A : Type 0} (o : Option X) (q : Program A) (f : X → Option Y) (g : Y → Program A) → let_some o q (λ x. let_some (f x) q g) ≡ let_some (from_some o none f) q g
+let_chain : {X Y A : Type 0} (o : Option X) (q : Program A) (f : X → Option Y) (g : Y → Program A) → let_some o q (λ x. let_some (f x) q g) ≡ let_some (from_some o None f) q g
 unfolding let_some
-let_chain none q f g = refl
-let_chain (some x) q f g = refl
+let_chain None q f g = refl
+let_chain (Some x) q f g = refl
 
 -- ------------------------------------------------------------------ up to the demand
 
 pub argument_shaped : (m : ℕ) (the_module : Module) (callee index : ℕ) → argument_context m the_module callee index
-    ≡ let_some (argument_definition the_module callee) (done none) (λ d. function_semantic_signature m d >>= (λ signature. signature_param signature index))
+    ≡ let_some (argument_definition the_module callee) (done None) (λ d. function_semantic_signature m d >>= (λ signature. signature_param signature index))
 unfolding argument_context argument_definition
 argument_shaped m the_module callee index =
     let go : ℕ → Program (Option ℕ) = λ d. function_semantic_signature m d >>= (λ signature. signature_param signature index) in
-    (λ i. let_some (expression_at the_module callee) (done none) (λ info. let_chain (as_identifier info.node) (done none) (λ name. definition_for_identifier_expr the_module callee) go i))
-    ∙ let_chain (expression_at the_module callee) (done none) (λ info. from_some (as_identifier info.node) none (λ name. definition_for_identifier_expr the_module callee)) go
+    (λ i. let_some (expression_at the_module callee) (done None) (λ info. let_chain (as_identifier info.node) (done None) (λ name. definition_for_identifier_expr the_module callee) go i))
+    ∙ let_chain (expression_at the_module callee) (done None) (λ info. from_some (as_identifier info.node) None (λ name. definition_for_identifier_expr the_module callee)) go
 
-field_tail : (m : ℕ) (fields : Option ℕ) (scope : ℕ) → let_some fields (done none) (λ t. resolve_ast_type m t scope >>= (λ n. done (some n)))
-    ≡ let_some (from_some fields none (λ t. some (scoped t scope))) (done none) (λ x. resolve_ast_type m x.type x.scope >>= (λ n. done (some n)))
+field_tail : (m : ℕ) (fields : Option ℕ) (scope : ℕ) → let_some fields (done None) (λ t. resolve_ast_type m t scope >>= (λ n. done (Some n)))
+    ≡ let_some (from_some fields None (λ t. Some (scoped t scope))) (done None) (λ x. resolve_ast_type m x.type x.scope >>= (λ n. done (Some n)))
 unfolding let_some
-field_tail m none scope = refl
-field_tail m (some t) scope = refl
+field_tail m None scope = refl
+field_tail m (Some t) scope = refl
 
 pub field_shaped : (m : ℕ) (the_module : Module) (parent : ℕ) (field : Name) → field_context m the_module parent field
-    ≡ let_some (field_type_expr the_module parent field) (done none) (λ x. resolve_ast_type m x.type x.scope >>= (λ t. done (some t)))
+    ≡ let_some (field_type_expr the_module parent field) (done None) (λ x. resolve_ast_type m x.type x.scope >>= (λ t. done (Some t)))
 unfolding field_context field_type_expr
 field_shaped m the_module parent field =
-    let go : ScopedType → Program (Option ℕ) = λ x. resolve_ast_type m x.type x.scope >>= (λ t. done (some t)) in
-    (λ i. let_some (expression_at the_module parent) (done none) (λ info.
-    let_some (as_struct_literal info.node) (done none) (λ literal.
-    let_some (resolve_name_at_position the_module literal.name info.scope literal.start literal.end) (done none) (λ d.
-    let_some (definition_at the_module d) (done none) (λ definition. field_tail m (struct_field definition.kind field) info.scope i)))))
-    ∙ (λ i. let_some (expression_at the_module parent) (done none) (λ info.
-    let_some (as_struct_literal info.node) (done none) (λ literal.
-    let_some (resolve_name_at_position the_module literal.name info.scope literal.start literal.end) (done none) (λ d.
-    let_chain (definition_at the_module d) (done none) (λ definition. from_some (struct_field definition.kind field) none (λ t. some (scoped t info.scope))) go i))))
-    ∙ (λ i. let_some (expression_at the_module parent) (done none) (λ info.
-    let_some (as_struct_literal info.node) (done none) (λ literal.
-    let_chain (resolve_name_at_position the_module literal.name info.scope literal.start literal.end) (done none)
-    (λ d. from_some (definition_at the_module d) none (λ definition. from_some (struct_field definition.kind field) none (λ t. some (scoped t info.scope)))) go i)))
-    ∙ (λ i. let_some (expression_at the_module parent) (done none) (λ info.
-    let_chain (as_struct_literal info.node) (done none)
-    (λ literal. from_some (resolve_name_at_position the_module literal.name info.scope literal.start literal.end) none
-    (λ d. from_some (definition_at the_module d) none (λ definition. from_some (struct_field definition.kind field) none (λ t. some (scoped t info.scope))))) go i))
-    ∙ let_chain (expression_at the_module parent) (done none)
-    (λ info. from_some (as_struct_literal info.node) none
-    (λ literal. from_some (resolve_name_at_position the_module literal.name info.scope literal.start literal.end) none
-    (λ d. from_some (definition_at the_module d) none (λ definition. from_some (struct_field definition.kind field) none (λ t. some (scoped t info.scope)))))) go
+    let go : ScopedType → Program (Option ℕ) = λ x. resolve_ast_type m x.type x.scope >>= (λ t. done (Some t)) in
+    (λ i. let_some (expression_at the_module parent) (done None) (λ info.
+    let_some (as_struct_literal info.node) (done None) (λ literal.
+    let_some (resolve_name_at_position the_module literal.name info.scope literal.start literal.end) (done None) (λ d.
+    let_some (definition_at the_module d) (done None) (λ definition. field_tail m (struct_field definition.kind field) info.scope i)))))
+    ∙ (λ i. let_some (expression_at the_module parent) (done None) (λ info.
+    let_some (as_struct_literal info.node) (done None) (λ literal.
+    let_some (resolve_name_at_position the_module literal.name info.scope literal.start literal.end) (done None) (λ d.
+    let_chain (definition_at the_module d) (done None) (λ definition. from_some (struct_field definition.kind field) None (λ t. Some (scoped t info.scope))) go i))))
+    ∙ (λ i. let_some (expression_at the_module parent) (done None) (λ info.
+    let_some (as_struct_literal info.node) (done None) (λ literal.
+    let_chain (resolve_name_at_position the_module literal.name info.scope literal.start literal.end) (done None)
+    (λ d. from_some (definition_at the_module d) None (λ definition. from_some (struct_field definition.kind field) None (λ t. Some (scoped t info.scope)))) go i)))
+    ∙ (λ i. let_some (expression_at the_module parent) (done None) (λ info.
+    let_chain (as_struct_literal info.node) (done None)
+    (λ literal. from_some (resolve_name_at_position the_module literal.name info.scope literal.start literal.end) None
+    (λ d. from_some (definition_at the_module d) None (λ definition. from_some (struct_field definition.kind field) None (λ t. Some (scoped t info.scope))))) go i))
+    ∙ let_chain (expression_at the_module parent) (done None)
+    (λ info. from_some (as_struct_literal info.node) None
+    (λ literal. from_some (resolve_name_at_position the_module literal.name info.scope literal.start literal.end) None
+    (λ d. from_some (definition_at the_module d) None (λ definition. from_some (struct_field definition.kind field) None (λ t. Some (scoped t info.scope)))))) go
 
 import_tail : (imported : ℕ) (d : Option ℕ) → let_some d (done error) (λ n. definition_semantic_type imported n)
-    ≡ let_some (from_some d none (λ n. some (imported_as imported n))) (done error) (λ x. definition_semantic_type x.source x.definition)
+    ≡ let_some (from_some d None (λ n. Some (imported_as imported n))) (done error) (λ x. definition_semantic_type x.source x.definition)
 unfolding let_some
-import_tail imported none = refl
-import_tail imported (some n) = refl
+import_tail imported None = refl
+import_tail imported (Some n) = refl
 
 pub use_shaped : (index : Index) (home item : Name) → use_type index home item
     ≡ let_some (imported_definition index home item) (done error) (λ x. definition_semantic_type x.source x.definition)
@@ -99,19 +99,19 @@ use_shaped index home item =
     let_some (root_scope other) (done error) (λ root. import_tail imported (latest_definition_index_by_name other root item) i))))
     ∙ (λ i. let_some (module_by_name index home) (done error) (λ imported.
     let_some (module_at index imported) (done error) (λ other.
-    let_chain (root_scope other) (done error) (λ root. from_some (latest_definition_index_by_name other root item) none (λ n. some (imported_as imported n))) go i)))
+    let_chain (root_scope other) (done error) (λ root. from_some (latest_definition_index_by_name other root item) None (λ n. Some (imported_as imported n))) go i)))
     ∙ (λ i. let_some (module_by_name index home) (done error) (λ imported.
     let_chain (module_at index imported) (done error)
-    (λ other. from_some (root_scope other) none (λ root. from_some (latest_definition_index_by_name other root item) none (λ n. some (imported_as imported n)))) go i))
+    (λ other. from_some (root_scope other) None (λ root. from_some (latest_definition_index_by_name other root item) None (λ n. Some (imported_as imported n)))) go i))
     ∙ let_chain (module_by_name index home) (done error)
-    (λ imported. from_some (module_at index imported) none
-    (λ other. from_some (root_scope other) none (λ root. from_some (latest_definition_index_by_name other root item) none (λ n. some (imported_as imported n))))) go
+    (λ imported. from_some (module_at index imported) None
+    (λ other. from_some (root_scope other) None (λ root. from_some (latest_definition_index_by_name other root item) None (λ n. Some (imported_as imported n))))) go
 
 recorded : (m : ℕ) (definition named : Option ℕ) → let_some definition (let_some named (done error) (λ d. definition_semantic_type m d)) (λ d. definition_semantic_type m d)
-    ≡ let_some (from_some definition named some) (done error) (λ d. definition_semantic_type m d)
+    ≡ let_some (from_some definition named Some) (done error) (λ d. definition_semantic_type m d)
 unfolding let_some
-recorded m none named = refl
-recorded m (some d) named = refl
+recorded m None named = refl
+recorded m (Some d) named = refl
 
 pub identifier_shaped : (m : ℕ) (the_module : Module) (info : ExpressionInfo) (name : Name) → identifier_type m the_module info name
     ≡ when is_builtin_function_name name then done unit
@@ -123,11 +123,11 @@ identifier_shaped m the_module info name i =
 
 -- ------------------------------------------------------------------ numbers
 
-expected_by : (m s : ℕ) (expected : Option ℕ) (k : Option ℕ → Program ℕ) → (let_some expected (done none) (λ t. resolve_ast_type m t s >>= (λ n. look (λ table. done (numeric table n))))) >>= k
-    ≡ let_some expected (k none) (λ t. resolve_ast_type m t s >>= (λ n. look (λ table. k (numeric table n))))
+expected_by : (m s : ℕ) (expected : Option ℕ) (k : Option ℕ → Program ℕ) → (let_some expected (done None) (λ t. resolve_ast_type m t s >>= (λ n. look (λ table. done (numeric table n))))) >>= k
+    ≡ let_some expected (k None) (λ t. resolve_ast_type m t s >>= (λ n. look (λ table. k (numeric table n))))
 unfolding let_some ◌>>=◌
-expected_by m s none k = refl
-expected_by m s (some t) k = refl
+expected_by m s None k = refl
+expected_by m s (Some t) k = refl
 
 pub literal_shaped : (m : ℕ) (info : ExpressionInfo) (context : Option ℕ) (suffix : Option Name) → literal_type m info context suffix ≡ literal_in m info.scope info.expected context suffix
 unfolding literal_in literal_type expected_numeric
@@ -135,7 +135,7 @@ literal_shaped m info context suffix = refl
 
 pub literal_numbered : (m s : ℕ) (expected context : Option ℕ) (suffix : Option Name) → literal_in m s expected context suffix
     ≡ let_some (suffix_type suffix)
-    (let_some expected (let_some none (look (λ table. done (numeric_context table context))) done)
+    (let_some expected (let_some None (look (λ table. done (numeric_context table context))) done)
     (λ t. resolve_ast_type m t s >>= (λ n. look (λ table. let_some (numeric table n) (look (λ table. done (numeric_context table context))) done))))
     done
 unfolding literal_in literal_type expected_numeric
@@ -208,13 +208,13 @@ unfolding numbers_at names_with_types_at
 listed_types file words first count = sym (types_each file words first count)
 
 pub struct_listed : (file words : List ℕ) (m d s first count : ℕ) → struct_type m d s (names_with_types_at file words first count)
-    ≡ resolve_all m s (numbers_at words first count) >>= (λ types. type_id_new (TypeData.Struct m d (typed_fields (names_with_types_at file words first count) types)) >>= (λ t. done (some t)))
+    ≡ resolve_all m s (numbers_at words first count) >>= (λ types. type_id_new (TypeData.Struct m d (typed_fields (names_with_types_at file words first count) types)) >>= (λ t. done (Some t)))
 unfolding struct_type
 struct_listed file words m d s first count =
-    ap (λ ts. resolve_all m s ts >>= (λ types. type_id_new (TypeData.Struct m d (typed_fields (names_with_types_at file words first count) types)) >>= (λ t. done (some t)))) (sym (listed_types file words first count))
+    ap (λ ts. resolve_all m s ts >>= (λ types. type_id_new (TypeData.Struct m d (typed_fields (names_with_types_at file words first count) types)) >>= (λ t. done (Some t)))) (sym (listed_types file words first count))
 
 pub signature_listed : (file words : List ℕ) (m d s u first count : ℕ) → signature_type m d s u (names_with_types_at file words first count)
-    ≡ resolve_all m s (numbers_at words first count) >>= (λ params. resolve_ast_type m u s >>= (λ result. type_id_new (TypeData.Function m d params result) >>= (λ t. done (some t))))
+    ≡ resolve_all m s (numbers_at words first count) >>= (λ params. resolve_ast_type m u s >>= (λ result. type_id_new (TypeData.Function m d params result) >>= (λ t. done (Some t))))
 unfolding signature_type
 signature_listed file words m d s u first count =
-    ap (λ ts. resolve_all m s ts >>= (λ params. resolve_ast_type m u s >>= (λ result. type_id_new (TypeData.Function m d params result) >>= (λ t. done (some t))))) (sym (listed_types file words first count))
+    ap (λ ts. resolve_all m s ts >>= (λ params. resolve_ast_type m u s >>= (λ result. type_id_new (TypeData.Function m d params result) >>= (λ t. done (Some t))))) (sym (listed_types file words first count))

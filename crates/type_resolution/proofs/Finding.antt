@@ -4,7 +4,7 @@ use mathlib.Core.Bool.{Bool, true, false}
 use Prim.Native.Nat.{ℕ}
 use native.Mathlib.Omega.{arith}
 use mathlib.Core.List.{List}
-use mathlib.Core.Option.{Option, none, some}
+use Rattle.std.specs.Prelude.{Option, None, Some}
 use Rattle.std.specs.Prelude.{if◌then◌else◌}
 use Rattle.model.specs.Records.{Module}
 use Rattle.model.specs.Lookups.{type_expr_at, definition_at, expression_at}
@@ -30,14 +30,14 @@ use Rattle.type_resolution.proofs.Running.{some_runs, none_runs, answers, knows_
 
 module _ {X A R : Type 0} {meaning : R → Table → Outcome A} {file words : List ℕ} {depth : ℕ} {T : List ℕ} {O : List (List ℕ)} {T' : List ℕ} {O' : List (List ℕ)} {r : R}
     (at : Module → Option X) (q : Program A) (f : Module → X → Program A) where
-  found_by : (there : Bool) (the_module : Module) (o : Option Module) (v : X) → o ≡ (if there then some the_module else none)
-      → some v ≡ (if there then at the_module else none) → Runs meaning file words (f the_module v) depth T O T' O' r
+  found_by : (there : Bool) (the_module : Module) (o : Option Module) (v : X) → o ≡ (if there then Some the_module else None)
+      → Some v ≡ (if there then at the_module else None) → Runs meaning file words (f the_module v) depth T O T' O' r
       → Runs meaning file words (let_some o q (λ home. let_some (at home) q (f home))) depth T O T' O' r
   found_by true the_module o v e h a = some_runs o q (λ home. let_some (at home) q (f home)) e (some_runs (at the_module) q (f the_module) (sym h) a)
   found_by false the_module o v e h a = let z : ◌≡◌ {A = ℕ} 0 1 = cc in absurd (omega arith)
 
-  absent_by : (there : Bool) (the_module : Module) (o : Option Module) → o ≡ (if there then some the_module else none)
-      → none ≡ (if there then at the_module else none) → Runs meaning file words q depth T O T' O' r
+  absent_by : (there : Bool) (the_module : Module) (o : Option Module) → o ≡ (if there then Some the_module else None)
+      → None ≡ (if there then at the_module else None) → Runs meaning file words q depth T O T' O' r
       → Runs meaning file words (let_some o q (λ home. let_some (at home) q (f home))) depth T O T' O' r
   absent_by true the_module o e h a = some_runs o q (λ home. let_some (at home) q (f home)) e (none_runs (at the_module) q (f the_module) (sym h) a)
   absent_by false the_module o e h a = none_runs o q (λ home. let_some (at home) q (f home)) e a
@@ -66,7 +66,7 @@ module _ {file words : List ℕ} {depth : ℕ} {T : List ℕ} {O : List (List �
       → Runs linked file words (program (index_of file words) (Demand.struct m d)) depth T O T' O' r
   unfolding program struct_program
   struct_found m d i h a =
-      found_by (λ home. definition_at home d) (done none) (λ home x. struct_kind_data m d x.scope x.kind) i.there (module_row file words m) _ _
+      found_by (λ home. definition_at home d) (done None) (λ home x. struct_kind_data m d x.scope x.kind) i.there (module_row file words m) _ _
       (i.module_is file) (sym (ap (found_definition_of file words) h) ∙ i.same file) a
 
   pub signature_found : {r : Linked} (m d : ℕ) {x : FoundDefinition} {v : Definition} → DefinitionIn words m d x → x ≡ FoundDefinition.Found v
@@ -74,7 +74,7 @@ module _ {file words : List ℕ} {depth : ℕ} {T : List ℕ} {O : List (List �
       → Runs linked file words (program (index_of file words) (Demand.signature m d)) depth T O T' O' r
   unfolding program signature_program
   signature_found m d i h a =
-      found_by (λ home. definition_at home d) (done none) (λ home x. function_kind_signature m d x.scope x.kind) i.there (module_row file words m) _ _
+      found_by (λ home. definition_at home d) (done None) (λ home x. function_kind_signature m d x.scope x.kind) i.there (module_row file words m) _ _
       (i.module_is file) (sym (ap (found_definition_of file words) h) ∙ i.same file) a
 
   pub expression_found : {r : Resolved} (m e : ℕ) (given : Option ℕ) {x : FoundExpression} {v : ExpressionInfo} → ExpressionIn words m e x → x ≡ FoundExpression.Found v
@@ -88,11 +88,11 @@ module _ {file words : List ℕ} {depth : ℕ} {T : List ℕ} {O : List (List �
 
   -- an expression with a context, which is resolved first
   pub in_context_found : {r : Resolved} (m e t : ℕ) {x : FoundExpression} {v : ExpressionInfo} → ExpressionIn words m e x → x ≡ FoundExpression.Found v
-      → Runs typed file words (resolve_ast_type m t v.scope.0 >>= (λ context. expression_semantic_type m e (some context))) depth T O T' O' r
+      → Runs typed file words (resolve_ast_type m t v.scope.0 >>= (λ context. expression_semantic_type m e (Some context))) depth T O T' O' r
       → Runs typed file words (expression_in_context (index_of file words) m e t) depth T O T' O' r
   unfolding expression_in_context
   in_context_found m e t i h a =
-      found_by (λ home. expression_at home e) (done error) (λ home info. resolve_ast_type m t info.scope >>= (λ context. expression_semantic_type m e (some context))) i.there (module_row file words m) _ _
+      found_by (λ home. expression_at home e) (done error) (λ home info. resolve_ast_type m t info.scope >>= (λ context. expression_semantic_type m e (Some context))) i.there (module_row file words m) _ _
       (i.module_is file) (sym (ap (found_expression_of file words) h) ∙ i.same file) a
 
 -- ------------------------------------------------------------------ where there is none
@@ -116,14 +116,14 @@ module _ {file words : List ℕ} {depth : ℕ} {T : List ℕ} {O : List (List �
       → Runs linked file words (program (index_of file words) (Demand.struct m d)) depth T O T O Linked.Absent
   unfolding program struct_program
   struct_absent m d i h =
-      absent_by (λ home. definition_at home d) (done none) (λ home x. struct_kind_data m d x.scope x.kind) i.there (module_row file words m) _
+      absent_by (λ home. definition_at home d) (done None) (λ home x. struct_kind_data m d x.scope x.kind) i.there (module_row file words m) _
       (i.module_is file) (sym (ap (found_definition_of file words) h) ∙ i.same file) (knows_nothing ok)
 
   pub signature_absent : (m d : ℕ) {x : FoundDefinition} → DefinitionIn words m d x → x ≡ FoundDefinition.Absent
       → Runs linked file words (program (index_of file words) (Demand.signature m d)) depth T O T O Linked.Absent
   unfolding program signature_program
   signature_absent m d i h =
-      absent_by (λ home. definition_at home d) (done none) (λ home x. function_kind_signature m d x.scope x.kind) i.there (module_row file words m) _
+      absent_by (λ home. definition_at home d) (done None) (λ home x. function_kind_signature m d x.scope x.kind) i.there (module_row file words m) _
       (i.module_is file) (sym (ap (found_definition_of file words) h) ∙ i.same file) (knows_nothing ok)
 
   pub expression_absent : (m e : ℕ) (given : Option ℕ) {x : FoundExpression} → ExpressionIn words m e x → x ≡ FoundExpression.Absent
@@ -137,5 +137,5 @@ module _ {file words : List ℕ} {depth : ℕ} {T : List ℕ} {O : List (List �
       → Runs typed file words (expression_in_context (index_of file words) m e t) depth T O T O (Resolved.Answered error)
   unfolding expression_in_context
   in_context_absent m e t i h =
-      absent_by (λ home. expression_at home e) (done error) (λ home info. resolve_ast_type m t info.scope >>= (λ context. expression_semantic_type m e (some context))) i.there (module_row file words m) _
+      absent_by (λ home. expression_at home e) (done error) (λ home info. resolve_ast_type m t info.scope >>= (λ context. expression_semantic_type m e (Some context))) i.there (module_row file words m) _
       (i.module_is file) (sym (ap (found_expression_of file words) h) ∙ i.same file) (answers ok refl)

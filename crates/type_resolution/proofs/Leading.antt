@@ -5,8 +5,9 @@ use Prim.Native.Nat.{ℕ, zero, suc, ◌+◌, ◌-◌, ◌≤◌, ◌<◌, min}
 use native.Mathlib.Numerals.{add-one}
 use native.Mathlib.Omega.{arith}
 use mathlib.Core.List.{List, [], ◌∷◌, ◌++◌, append_assoc, append-nil}
-use mathlib.Core.Option.{Option, none, some}
-use lib.ListN.{length, take, drop, set, get_or, get_elem?, length-take, length-drop}
+use Rattle.std.specs.Prelude.{Option, None, Some}
+use Rattle.std.specs.Prelude.{slice_get}
+use lib.ListN.{length, take, drop, set, get_or, length-take, length-drop}
 use lib.Seq.{take-suc-set, ext_get_or, get_or-take, get_or-drop}
 use Rattle.records.specs.Layout.{index_of, each, item_value, link_by, numbers_at, links_at}
 use Rattle.records.specs.Meaning.{expression_link_of}
@@ -159,16 +160,16 @@ gathering m contexts i got es = infer_elements m contexts i es >>= (λ ns. done 
 pub gathering_begin : (m : ℕ) (contexts : List ℕ) (es : List (Option ℕ)) → infer_elements m contexts 0 es ≡ gathering m contexts 0 [] es
 gathering_begin m contexts es = sym (bind_done (infer_elements m contexts 0 es))
 
-pub gathering_skip : (m : ℕ) (contexts : List ℕ) (i : ℕ) (got : List ℕ) (es : List (Option ℕ)) → gathering m contexts i got (none ∷ es) ≡ gathering m contexts (i + 1) got es
+pub gathering_skip : (m : ℕ) (contexts : List ℕ) (i : ℕ) (got : List ℕ) (es : List (Option ℕ)) → gathering m contexts i got (None ∷ es) ≡ gathering m contexts (i + 1) got es
 unfolding infer_elements
 gathering_skip m contexts i got es = ap (λ k. gathering m contexts k got es) (sym (add-one i))
 
-pub gathering_step : (m : ℕ) (contexts : List ℕ) (i : ℕ) (got : List ℕ) (e : ℕ) (es : List (Option ℕ)) → gathering m contexts i got (some e ∷ es)
-    ≡ ask (Demand.expression m e (get_elem? contexts i)) done >>= (λ n. infer_elements m contexts (i + 1) es >>= (λ ns. done (got ++ (n ∷ ns))))
+pub gathering_step : (m : ℕ) (contexts : List ℕ) (i : ℕ) (got : List ℕ) (e : ℕ) (es : List (Option ℕ)) → gathering m contexts i got (Some e ∷ es)
+    ≡ ask (Demand.expression m e (slice_get contexts i)) done >>= (λ n. infer_elements m contexts (i + 1) es >>= (λ ns. done (got ++ (n ∷ ns))))
 unfolding infer_elements ◌>>=◌
 gathering_step m contexts i got e es =
-    (λ j. ask (Demand.expression m e (get_elem? contexts i)) (λ n. bind_assoc (infer_elements m contexts (suc i) es) (λ ns. done (n ∷ ns)) (λ ns. done (got ++ ns)) j))
-    ∙ ap (λ k. ask (Demand.expression m e (get_elem? contexts i)) (λ n. infer_elements m contexts k es >>= (λ ns. done (got ++ (n ∷ ns))))) (sym (add-one i))
+    (λ j. ask (Demand.expression m e (slice_get contexts i)) (λ n. bind_assoc (infer_elements m contexts (suc i) es) (λ ns. done (n ∷ ns)) (λ ns. done (got ++ ns)) j))
+    ∙ ap (λ k. ask (Demand.expression m e (slice_get contexts i)) (λ n. infer_elements m contexts k es >>= (λ ns. done (got ++ (n ∷ ns))))) (sym (add-one i))
 
 pub gathering_end : (m : ℕ) (contexts : List ℕ) (i : ℕ) (got : List ℕ) → gathering m contexts i got [] ≡ done got
 unfolding infer_elements ◌>>=◌
@@ -176,21 +177,21 @@ gathering_end m contexts i got = ap done (append-nil got)
 
 -- each argument of a call
 pub arguments_step : (m : ℕ) (params : List ℕ) (i : ℕ) (arg : Option ℕ) (args : List (Option ℕ)) → infer_arguments m params i (arg ∷ args)
-    ≡ infer_only m arg (get_elem? params i) >>= (λ u. infer_arguments m params (i + 1) args)
+    ≡ infer_only m arg (slice_get params i) >>= (λ u. infer_arguments m params (i + 1) args)
 unfolding infer_arguments
-arguments_step m params i arg args = ap (λ k. infer_only m arg (get_elem? params i) >>= (λ u. infer_arguments m params k args)) (sym (add-one i))
+arguments_step m params i arg args = ap (λ k. infer_only m arg (slice_get params i) >>= (λ u. infer_arguments m params k args)) (sym (add-one i))
 
 pub arguments_end : (m : ℕ) (params : List ℕ) (i : ℕ) → infer_arguments m params i [] ≡ done tt
 unfolding infer_arguments
 arguments_end m params i = refl
 
 -- each element of an array behind the first
-pub same_missing : (m t : ℕ) (es : List (Option ℕ)) → all_same_type m t (none ∷ es) ≡ done false
+pub same_missing : (m t : ℕ) (es : List (Option ℕ)) → all_same_type m t (None ∷ es) ≡ done false
 unfolding all_same_type
 same_missing m t es = refl
 
-pub same_step : (m t e : ℕ) (es : List (Option ℕ)) → all_same_type m t (some e ∷ es)
-    ≡ expression_semantic_type m e (some t) >>= (λ x. look (λ table. when are_types_compatible table x t then all_same_type m t es else done false))
+pub same_step : (m t e : ℕ) (es : List (Option ℕ)) → all_same_type m t (Some e ∷ es)
+    ≡ expression_semantic_type m e (Some t) >>= (λ x. look (λ table. when are_types_compatible table x t then all_same_type m t es else done false))
 unfolding all_same_type
 same_step m t e es = refl
 
@@ -240,7 +241,7 @@ module _ {file words : List ℕ} {depth : ℕ} {p : Program (List ℕ)} {T₀ : 
       ∙ gathering_skip m contexts i (take n out) (links_left words first count (i + 1)))
 
   elements_next : (link : ExpressionLink) {x : ExpressionId} (context : Option ℕ) → i < count → expression_link_of link ≡ link_by (item_value words (first + i)) → link ≡ ExpressionLink.To x
-      → context ≡ get_elem? contexts i
+      → context ≡ slice_get contexts i
       → Leads file words depth p T₀ O₀ (ask (Demand.expression m x.0 context) done >>= (λ t. infer_elements m contexts (i + 1) (links_left words first count (i + 1)) >>= (λ ns. done (take n out ++ (t ∷ ns))))) T O
   elements_next link {x} context lt e h same =
       leads_as l _
@@ -249,7 +250,7 @@ module _ {file words : List ℕ} {depth : ℕ} {p : Program (List ℕ)} {T₀ : 
       ∙ ap (λ o. ask (Demand.expression m x.0 o) done >>= (λ t. infer_elements m contexts (i + 1) (links_left words first count (i + 1)) >>= (λ ns. done (take n out ++ (t ∷ ns))))) (sym same))
 
   module _ (link : ExpressionLink) {x : ExpressionId} {context : Option ℕ} {T' : List ℕ} {O' : List (List ℕ)} {r : Resolved} (lt : i < count)
-      (e : expression_link_of link ≡ link_by (item_value words (first + i))) (h : link ≡ ExpressionLink.To x) (same : context ≡ get_elem? contexts i)
+      (e : expression_link_of link ≡ link_by (item_value words (first + i))) (h : link ≡ ExpressionLink.To x) (same : context ≡ slice_get contexts i)
       (a : Runs typed file words (ask (Demand.expression m x.0 context) done) depth T O T' O' r) where
     pub elements_more : {t : ℕ} → r ≡ Resolved.Answered t → n < length out
         → Leads file words depth p T₀ O₀ (gathering m contexts (i + 1) (take (n + 1) (set out n t)) (links_left words first count (i + 1))) T' O'
@@ -268,16 +269,16 @@ module _ {file words : List ℕ} {depth : ℕ} {p : Program (List ℕ)} {T₀ : 
 -- each argument of a call
 module _ {file words : List ℕ} {depth : ℕ} {p : Program (Unit {0})} {T₀ : List ℕ} {O₀ : List (List ℕ)} {T : List ℕ} {O : List (List ℕ)} (m : ℕ) (params : List ℕ) (first count i : ℕ)
     (l : Leads file words depth p T₀ O₀ (infer_arguments m params i (links_left words first count i)) T O) where
-  arguments_next : (link context : Option ℕ) → i < count → link ≡ link_by (item_value words (first + i)) → context ≡ get_elem? params i
+  arguments_next : (link context : Option ℕ) → i < count → link ≡ link_by (item_value words (first + i)) → context ≡ slice_get params i
       → Leads file words depth p T₀ O₀ (infer_only m link context >>= (λ u. infer_arguments m params (i + 1) (links_left words first count (i + 1)))) T O
   arguments_next link context lt e same =
       leads_as l _
       (ap (infer_arguments m params i) (links_step words first count i lt)
       ∙ arguments_step m params i (link_by (item_value words (first + i))) (links_left words first count (i + 1))
-      ∙ ap (λ o. infer_only m o (get_elem? params i) >>= (λ u. infer_arguments m params (i + 1) (links_left words first count (i + 1)))) (sym e)
+      ∙ ap (λ o. infer_only m o (slice_get params i) >>= (λ u. infer_arguments m params (i + 1) (links_left words first count (i + 1)))) (sym e)
       ∙ ap (λ o. infer_only m link o >>= (λ u. infer_arguments m params (i + 1) (links_left words first count (i + 1)))) (sym same))
 
-  module _ (link context : Option ℕ) {T' : List ℕ} {O' : List (List ℕ)} {r : Resolved} (lt : i < count) (e : link ≡ link_by (item_value words (first + i))) (same : context ≡ get_elem? params i)
+  module _ (link context : Option ℕ) {T' : List ℕ} {O' : List (List ℕ)} {r : Resolved} (lt : i < count) (e : link ≡ link_by (item_value words (first + i))) (same : context ≡ slice_get params i)
       (a : Runs ignored file words (infer_only m link context) depth T O T' O' r) where
     pub arguments_more : {t : ℕ} → r ≡ Resolved.Answered t → Leads file words depth p T₀ O₀ (infer_arguments m params (i + 1) (links_left words first count (i + 1))) T' O'
     arguments_more h = leads_on _ (arguments_next link context lt e same) a (is_ignored h)
@@ -303,7 +304,7 @@ module _ {file words : List ℕ} {depth : ℕ} {p : Program Bool} {T₀ : List �
 
   same_next : (link : ExpressionLink) (x : ExpressionId) → i < count → expression_link_of link ≡ link_by (item_value words (first + i)) → link ≡ ExpressionLink.To x
       → Leads file words depth p T₀ O₀
-      (expression_semantic_type m x.0 (some t) >>= (λ u. look (λ table. when are_types_compatible table u t then all_same_type m t (links_left words first count (i + 1)) else done false))) T O
+      (expression_semantic_type m x.0 (Some t) >>= (λ u. look (λ table. when are_types_compatible table u t then all_same_type m t (links_left words first count (i + 1)) else done false))) T O
   same_next link x lt e h =
       leads_as l _
       (ap (all_same_type m t) (links_step words first count i lt ∙ ap (λ o. o ∷ links_left words first count (i + 1)) (sym e ∙ ap expression_link_of h))
@@ -311,7 +312,7 @@ module _ {file words : List ℕ} {depth : ℕ} {p : Program Bool} {T₀ : List �
 
   module _ (link : ExpressionLink) {x : ExpressionId} {T' : List ℕ} {O' : List (List ℕ)} {r : Resolved} (lt : i < count)
       (e : expression_link_of link ≡ link_by (item_value words (first + i))) (h : link ≡ ExpressionLink.To x)
-      (a : Runs typed file words (expression_semantic_type m x.0 (some t)) depth T O T' O' r) where
+      (a : Runs typed file words (expression_semantic_type m x.0 (Some t)) depth T O T' O' r) where
     same_answered : {u : ℕ} (b : Bool) → r ≡ Resolved.Answered u → are_types_compatible (table_of file T') u t ≡ b
         → Leads file words depth p T₀ O₀ (when b then all_same_type m t (links_left words first count (i + 1)) else done false) T' O'
     same_answered {u} b k fits =

@@ -3,7 +3,7 @@ use mathlib.Core.Path.{◌≡◌, refl, sym, ap, subst, subst⁻¹, ◌∙◌}
 use mathlib.Core.Bool.{Bool, true, false}
 use Prim.Native.Nat.{ℕ, ◌+◌, ◌*◌, ◌-◌, ◌<◌}
 use native.Mathlib.Omega.{arith}
-use mathlib.Core.Option.{Option, none, some}
+use Rattle.std.specs.Prelude.{Option, None, Some}
 use mathlib.Core.List.{List}
 use lib.ListN.{take}
 use Rattle.records.specs.Layout.{index_of}
@@ -47,11 +47,11 @@ pub is_refused : {r : Resolved} {n : ℕ} → r ≡ Resolved.Refused n → Stops
 unfolding typed
 is_refused e t = ap (λ r. typed r t) e
 
-pub is_known : {r : Linked} {n : ℕ} → r ≡ Linked.Known n → Gives linked r (some n)
+pub is_known : {r : Linked} {n : ℕ} → r ≡ Linked.Known n → Gives linked r (Some n)
 unfolding linked
 is_known e t = ap (λ r. linked r t) e
 
-pub is_absent : {r : Linked} → r ≡ Linked.Absent → Gives linked r none
+pub is_absent : {r : Linked} → r ≡ Linked.Absent → Gives linked r None
 unfolding linked
 is_absent e t = ap (λ r. linked r t) e
 
@@ -106,10 +106,10 @@ module _ {file words : List ℕ} {depth : ℕ} {T : List ℕ} {O : List (List �
   pub refuses : (n : ℕ) → Runs typed file words (refuse n) depth T O T O (Resolved.Refused n)
   refuses n = stops ok (is_refused refl)
 
-  pub knows : {n m : ℕ} → n ≡ m → Runs linked file words (done (some m)) depth T O T O (Linked.Known n)
+  pub knows : {n m : ℕ} → n ≡ m → Runs linked file words (done (Some m)) depth T O T O (Linked.Known n)
   knows e = ends ok (is_known (ap Linked.Known e))
 
-  pub knows_nothing : Runs linked file words (done none) depth T O T O Linked.Absent
+  pub knows_nothing : Runs linked file words (done None) depth T O T O Linked.Absent
   knows_nothing = ends ok (is_absent refl)
 
   -- what is read of the table
@@ -160,11 +160,11 @@ module _ {A R : Type 0} {meaning : R → Table → Outcome A} {file words : List
   unfolding when◌then◌else◌
   if_false b p q h e a = subst (λ y. Runs meaning file words (when y then p else q) depth T O T' O' r) (sym e ∙ h) a
 
-  pub some_runs : {X : Type 0} (o : Option X) (p : Program A) (f : X → Program A) {x : X} → o ≡ some x → Runs meaning file words (f x) depth T O T' O' r → Runs meaning file words (let_some o p f) depth T O T' O' r
+  pub some_runs : {X : Type 0} (o : Option X) (p : Program A) (f : X → Program A) {x : X} → o ≡ Some x → Runs meaning file words (f x) depth T O T' O' r → Runs meaning file words (let_some o p f) depth T O T' O' r
   unfolding let_some
   some_runs o p f e a = subst⁻¹ (λ y. Runs meaning file words (let_some y p f) depth T O T' O' r) e a
 
-  pub none_runs : {X : Type 0} (o : Option X) (p : Program A) (f : X → Program A) → o ≡ none → Runs meaning file words p depth T O T' O' r → Runs meaning file words (let_some o p f) depth T O T' O' r
+  pub none_runs : {X : Type 0} (o : Option X) (p : Program A) (f : X → Program A) → o ≡ None → Runs meaning file words p depth T O T' O' r → Runs meaning file words (let_some o p f) depth T O T' O' r
   unfolding let_some
   none_runs o p f e a = subst⁻¹ (λ y. Runs meaning file words (let_some y p f) depth T O T' O' r) e a
 

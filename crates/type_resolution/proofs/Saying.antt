@@ -2,7 +2,7 @@
 use Prim.Native.Nat.{ℕ}
 use mathlib.Core.Path.{◌≡◌, refl, sym, ap, subst⁻¹, ◌∙◌}
 use mathlib.Core.List.{List}
-use mathlib.Core.Option.{Option, none, some}
+use Rattle.std.specs.Prelude.{Option, None, Some}
 use Rattle.model.specs.Records.{Module, Index}
 use Rattle.model.specs.Lookups.{module_at, expression_at_position}
 use Rattle.model.specs.Common as common
@@ -65,9 +65,9 @@ at_reads index m position = by_module (module_at index m)
   where
     by_module : (o : Option Module)
         → let_some o (done none_said) (λ the_module. says_at m (expression_at_position the_module position))
-        ≡ says_at m (common.let_some o none λ the_module. expression_at_position the_module position)
-    by_module none = refl
-    by_module (some the_module) = refl
+        ≡ says_at m (common.let_some o None λ the_module. expression_at_position the_module position)
+    by_module None = refl
+    by_module (Some the_module) = refl
 
 module _ {file words : List ℕ} {depth : ℕ} {T : List ℕ} {O : List (List ℕ)} (m position : ℕ) {r : ExpressionLink} (reads : PositionExpression words m position r) where
   pub nothing_there : Ready file words depth T O → r ≡ ExpressionLink.Absent
@@ -78,7 +78,7 @@ module _ {file words : List ℕ} {depth : ℕ} {T : List ℕ} {O : List (List �
       (none_runs _ _ _ (sym (reads.same file) ∙ ap expression_link_of absent) (ends ok says_none))
 
   pub expression_there : {e : ExpressionId} {T' : List ℕ} {O' : List (List ℕ)} {s : Said} → r ≡ ExpressionLink.To e
-      → Runs says file words (says_type (expression_semantic_type m e.0 none)) depth T O T' O' s
+      → Runs says file words (says_type (expression_semantic_type m e.0 None)) depth T O T' O' s
       → Runs says file words (asked_program (index_of file words) (resolution.Asked.at m position)) depth T O T' O' s
   unfolding asked_program says_at
   expression_there is a =

@@ -4,8 +4,9 @@ use mathlib.Core.Bool.{Bool, true, false}
 use Prim.Native.Nat.{ℕ, zero, suc, ◌≤◌}
 use native.Mathlib.Omega.{arith}
 use mathlib.Core.List.{List, [], ◌∷◌}
-use mathlib.Core.Option.{none, some}
-use lib.ListN.{length, get_elem?}
+use Rattle.std.specs.Prelude.{None, Some}
+use Rattle.std.specs.Prelude.{slice_get}
+use lib.ListN.{length}
 use Rattle.std.specs.Prelude.{if◌then◌else◌}
 use Rattle.model.specs.Common.{total}
 use Rattle.model.specs.Records as model
@@ -32,7 +33,7 @@ use Rattle.type_resolution.specs.declared.FoundFunction.{FoundFunction}
 
 -- ------------------------------------------------------------------ one of many
 
-at_most_total : {A : Type 0} (count : A → ℕ) (l : List A) (i : ℕ) (x : A) → some x ≡ get_elem? l i → count x ≤ total count l
+at_most_total : {A : Type 0} (count : A → ℕ) (l : List A) (i : ℕ) (x : A) → Some x ≡ slice_get l i → count x ≤ total count l
 unfolding total
 at_most_total count [] i x e = let z : ◌≡◌ {A = ℕ} 0 1 = cc in absurd (omega arith)
 at_most_total count (y ∷ l) zero x e = let same = ap count (some-injective e) in omega (arith, same)
@@ -41,8 +42,8 @@ at_most_total count (y ∷ l) (suc i) x e = let rest = at_most_total count l i x
 module _ {X : Type 0} (file words : List ℕ) (few : item_count (index_of file words) ≤ 2048) (m : ℕ) (records : model.Module → List X) (count : X → ℕ)
     (counted : (home : model.Module) → total count (records home) ≤ module_items home) where
   -- the items of a record that a module has
-  short_by : (there : Bool) (n : ℕ) (x : X) → module_at (index_of file words) m ≡ (if there then some (module_row file words m) else none)
-      → some x ≡ (if there then get_elem? (records (module_row file words m)) n else none) → count x ≤ 2048
+  short_by : (there : Bool) (n : ℕ) (x : X) → module_at (index_of file words) m ≡ (if there then Some (module_row file words m) else None)
+      → Some x ≡ (if there then slice_get (records (module_row file words m)) n else None) → count x ≤ 2048
   unfolding item_count
   short_by false n x e h = let z : ◌≡◌ {A = ℕ} 0 1 = cc in absurd (omega arith)
   short_by true n x e h =

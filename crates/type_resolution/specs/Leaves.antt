@@ -1,7 +1,7 @@
 -- What the small functions beside the cycle promise, each as a record of its own: its parameters are then found by unification.
 -- Definitions only.
 use Rattle.std.specs.Prelude.{◌≡◌, ℕ, ◌<◌, Bool, List}
-use Rattle.std.proofs.Math.Option.{Option, none, some}
+use Rattle.std.specs.Prelude.{Option, None, Some}
 use Rattle.std.specs.Prelude.{if◌then◌else◌}
 use Rattle.model.specs.Common.{let_some}
 use Rattle.model.specs.Lookups.{module_at, type_expr_at, definition_at, expression_at}
@@ -25,18 +25,18 @@ use Rattle.type_resolution.specs.declared.FoundFunction.{FoundFunction}
 
 pub record TypeIn (words : List ℕ) (m t : ℕ) (r : FoundTypeExpr) : Type 0 where
   pub there : Bool
-  pub module_is : (file : List ℕ) → module_at (index_of file words) m ≡ (if there then some (module_row file words m) else none)
-  pub same : (file : List ℕ) → found_type_expr_of file words r ≡ (if there then type_expr_at (module_row file words m) t else none)
+  pub module_is : (file : List ℕ) → module_at (index_of file words) m ≡ (if there then Some (module_row file words m) else None)
+  pub same : (file : List ℕ) → found_type_expr_of file words r ≡ (if there then type_expr_at (module_row file words m) t else None)
 
 pub record DefinitionIn (words : List ℕ) (m d : ℕ) (r : FoundDefinition) : Type 0 where
   pub there : Bool
-  pub module_is : (file : List ℕ) → module_at (index_of file words) m ≡ (if there then some (module_row file words m) else none)
-  pub same : (file : List ℕ) → found_definition_of file words r ≡ (if there then definition_at (module_row file words m) d else none)
+  pub module_is : (file : List ℕ) → module_at (index_of file words) m ≡ (if there then Some (module_row file words m) else None)
+  pub same : (file : List ℕ) → found_definition_of file words r ≡ (if there then definition_at (module_row file words m) d else None)
 
 pub record ExpressionIn (words : List ℕ) (m e : ℕ) (r : FoundExpression) : Type 0 where
   pub there : Bool
-  pub module_is : (file : List ℕ) → module_at (index_of file words) m ≡ (if there then some (module_row file words m) else none)
-  pub same : (file : List ℕ) → found_expression_of file words r ≡ (if there then expression_at (module_row file words m) e else none)
+  pub module_is : (file : List ℕ) → module_at (index_of file words) m ≡ (if there then Some (module_row file words m) else None)
+  pub same : (file : List ℕ) → found_expression_of file words r ≡ (if there then expression_at (module_row file words m) e else None)
 
 -- ------------------------------------------------------------------ kinds of definitions
 
@@ -83,8 +83,8 @@ pub record OrError (x : Linked) (r : Resolved) : Type 0 where
 
 -- what a read answers
 abbrev pub linked_by : Option ℕ → Linked
-linked_by none = Linked.Absent
-linked_by (some t) = Linked.Known t
+linked_by None = Linked.Absent
+linked_by (Some t) = Linked.Known t
 
 abbrev pub read_of : (ℕ → Table → Option ℕ) → Linked → Table → Linked
 read_of read (Linked.Known t) table = linked_by (read t table)

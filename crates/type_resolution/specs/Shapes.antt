@@ -1,7 +1,7 @@
 -- The programs of the helpers that the definition has no name for, in the definition's own words, and what is asked of lists: they are at most
 -- as long as the limit of items. Definitions only.
 use Rattle.std.specs.Prelude.{ℕ, ◌≤◌, List, drop}
-use Rattle.std.proofs.Math.Option.{Option, none, some}
+use Rattle.std.specs.Prelude.{Option, None, Some}
 use Rattle.model.specs.Records as model
 use Rattle.model.specs.Records.{Name, NameWithType, ExpressionInfo}
 use Rattle.model.specs.Limits.{max_items}
@@ -30,16 +30,16 @@ tuple_expr_type m s ts = do
 
 -- `resolve_variable_type` and `const_type`, with the type for neither a T nor a value
 unfoldable pub declared_type : ℕ → ℕ → Option ℕ → Option ℕ → ℕ → Program ℕ
-declared_type m s (some t) e otherwise = resolve_ast_type m t s
-declared_type m s none (some e) otherwise = expression_semantic_type m e none
-declared_type m s none none otherwise = done otherwise
+declared_type m s (Some t) e otherwise = resolve_ast_type m t s
+declared_type m s None (Some e) otherwise = expression_semantic_type m e None
+declared_type m s None None otherwise = done otherwise
 
 -- `struct_kind_data` of a struct
 unfoldable pub struct_type : ℕ → ℕ → ℕ → List NameWithType → Program (Option ℕ)
 struct_type m d s fields = do
   types ← resolve_all m s (field_types fields)
   t ← type_id_new (TypeData.Struct m d (typed_fields fields types))
-  done (some t)
+  done (Some t)
 
 -- `function_kind_signature` of a function
 unfoldable pub signature_type : ℕ → ℕ → ℕ → ℕ → List NameWithType → Program (Option ℕ)
@@ -47,7 +47,7 @@ signature_type m d s return_t params = do
   param_types ← resolve_all m s (field_types params)
   return_type ← resolve_ast_type m return_t s
   t ← type_id_new (TypeData.Function m d param_types return_type)
-  done (some t)
+  done (Some t)
 
 -- ------------------------------------------------------------------ nodes that look at the expression's scope and expected T alone
 
@@ -58,7 +58,7 @@ info_with s expected =
       start = 0;
       end = 0;
       expected = expected;
-      definition = none;
+      definition = None;
       origin = model.Origin.Plain;
       node = model.Expression.BooleanLiteral;
     }

@@ -1,7 +1,7 @@
 -- What every function of the cycle asks, and the one form of promise that each has: its result with the words at exit is what its program
 -- gives at the words at entry. Assumes nothing: these are definitions.
 use Rattle.std.specs.Prelude.{◌≡◌, ℕ, ◌-◌, ◌≤◌, Bool, true, false, List, length, take, drop}
-use Rattle.std.proofs.Math.Option.{Option, none, some}
+use Rattle.std.specs.Prelude.{Option, None, Some}
 use Rattle.model.specs.Limits.{item_count, max_items}
 use Rattle.records.specs.Layout.{index_of}
 use Rattle.resolution.specs.Types.{Table}
@@ -34,8 +34,8 @@ typed (Resolved.Refused n) table = refused n
 
 -- the number of a type, or none
 unfoldable pub linked : Linked → Table → Outcome (Option ℕ)
-linked (Linked.Known t) table = answered (some t) table
-linked Linked.Absent table = answered none table
+linked (Linked.Known t) table = answered (Some t) table
+linked Linked.Absent table = answered None table
 linked (Linked.Refused n) table = refused n
 
 -- an answer that nobody looks at

@@ -8,7 +8,7 @@
 #![tactic(auto)]
 
 ghost use Rattle.std.specs.Prelude.{◌≡◌, ◌+◌, ◌≤◌, ◌<◌, length};
-ghost use Rattle.std.proofs.Math.Option.{some};
+ghost use Rattle.std.specs.Prelude.{Some};
 ghost use Rattle.records.specs.Layout.{index_of, module_row};
 ghost use Rattle.records.specs.Meaning.{name_of, numbers_of, links_of, names_with_types_of, type_expr_of, definition_kind_of, type_link_of, expression_link_of, definition_link_of, suffix_of, expression_of, info_of, unary_op_of, binary_op_of};
 ghost use Rattle.resolution.specs.Programs.{Demand, ask, done};

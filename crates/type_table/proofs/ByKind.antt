@@ -3,7 +3,7 @@ use mathlib.Core.Path.{◌≡◌, refl}
 use mathlib.Core.Bool.{true, false}
 use Prim.Native.Nat.{ℕ}
 use mathlib.Core.List.{List, [], ◌∷◌}
-use mathlib.Core.Option.{none}
+use Rattle.std.specs.Prelude.{None}
 use types.Run.{miss}
 use borrow.Enum.Refused.{Among, opened}
 use denote.Enum.Declared.{tag_of}
@@ -12,7 +12,7 @@ use Rattle.type_table.specs.declared.TypeData.{TypeData as Row}
 use Rattle.type_table.specs.Meaning.{data_is}
 use Rattle.type_table.specs.contracts.TypeData.{the_type}
 
-pub other_than_tuple : (file w : List ℕ) (row : Row) → Among (0 ∷ 1 ∷ 2 ∷ 3 ∷ 4 ∷ 6 ∷ 7 ∷ 8 ∷ 9 ∷ []) (tag_of the_type row) → none ≡ as_tuple (data_is file w row)
+pub other_than_tuple : (file w : List ℕ) (row : Row) → Among (0 ∷ 1 ∷ 2 ∷ 3 ∷ 4 ∷ 6 ∷ 7 ∷ 8 ∷ 9 ∷ []) (tag_of the_type row) → None ≡ as_tuple (data_is file w row)
 unfolding as_tuple
 other_than_tuple file w Row.Felt h = refl
 other_than_tuple file w Row.«Bool» h = refl
@@ -25,7 +25,7 @@ other_than_tuple file w (Row.FixedArray u size) h = refl
 other_than_tuple file w (Row.Struct m d list) h = refl
 other_than_tuple file w (Row.Function m d list u) h = refl
 
-pub other_than_pointer : (file w : List ℕ) (row : Row) → Among (0 ∷ 1 ∷ 2 ∷ 3 ∷ 4 ∷ 5 ∷ 7 ∷ 8 ∷ 9 ∷ []) (tag_of the_type row) → none ≡ as_pointer (data_is file w row)
+pub other_than_pointer : (file w : List ℕ) (row : Row) → Among (0 ∷ 1 ∷ 2 ∷ 3 ∷ 4 ∷ 5 ∷ 7 ∷ 8 ∷ 9 ∷ []) (tag_of the_type row) → None ≡ as_pointer (data_is file w row)
 unfolding as_pointer
 other_than_pointer file w Row.Felt h = refl
 other_than_pointer file w Row.«Bool» h = refl
@@ -38,7 +38,7 @@ other_than_pointer file w (Row.FixedArray u size) h = refl
 other_than_pointer file w (Row.Struct m d list) h = refl
 other_than_pointer file w (Row.Function m d list u) h = refl
 
-pub other_than_array : (file w : List ℕ) (row : Row) → Among (0 ∷ 1 ∷ 2 ∷ 3 ∷ 4 ∷ 5 ∷ 6 ∷ 8 ∷ 9 ∷ []) (tag_of the_type row) → none ≡ as_array (data_is file w row)
+pub other_than_array : (file w : List ℕ) (row : Row) → Among (0 ∷ 1 ∷ 2 ∷ 3 ∷ 4 ∷ 5 ∷ 6 ∷ 8 ∷ 9 ∷ []) (tag_of the_type row) → None ≡ as_array (data_is file w row)
 unfolding as_array
 other_than_array file w Row.Felt h = refl
 other_than_array file w Row.«Bool» h = refl
@@ -51,7 +51,7 @@ other_than_array file w (Row.FixedArray u size) h = absurd (miss (0 ∷ 1 ∷ 2 
 other_than_array file w (Row.Struct m d list) h = refl
 other_than_array file w (Row.Function m d list u) h = refl
 
-pub other_than_struct : (file w : List ℕ) (row : Row) → Among (0 ∷ 1 ∷ 2 ∷ 3 ∷ 4 ∷ 5 ∷ 6 ∷ 7 ∷ 9 ∷ []) (tag_of the_type row) → none ≡ as_struct (data_is file w row)
+pub other_than_struct : (file w : List ℕ) (row : Row) → Among (0 ∷ 1 ∷ 2 ∷ 3 ∷ 4 ∷ 5 ∷ 6 ∷ 7 ∷ 9 ∷ []) (tag_of the_type row) → None ≡ as_struct (data_is file w row)
 unfolding as_struct
 other_than_struct file w Row.Felt h = refl
 other_than_struct file w Row.«Bool» h = refl
@@ -64,7 +64,7 @@ other_than_struct file w (Row.FixedArray u size) h = refl
 other_than_struct file w (Row.Struct m d list) h = absurd (miss (0 ∷ 1 ∷ 2 ∷ 3 ∷ 4 ∷ 5 ∷ 6 ∷ 7 ∷ 9 ∷ []) 8 tt (opened h))
 other_than_struct file w (Row.Function m d list u) h = refl
 
-pub other_than_function : (file w : List ℕ) (row : Row) → Among (0 ∷ 1 ∷ 2 ∷ 3 ∷ 4 ∷ 5 ∷ 6 ∷ 7 ∷ 8 ∷ []) (tag_of the_type row) → none ≡ as_function (data_is file w row)
+pub other_than_function : (file w : List ℕ) (row : Row) → Among (0 ∷ 1 ∷ 2 ∷ 3 ∷ 4 ∷ 5 ∷ 6 ∷ 7 ∷ 8 ∷ []) (tag_of the_type row) → None ≡ as_function (data_is file w row)
 unfolding as_function
 other_than_function file w Row.Felt h = refl
 other_than_function file w Row.«Bool» h = refl

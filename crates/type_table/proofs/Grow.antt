@@ -4,7 +4,7 @@ use mathlib.Core.Path.{◌≡◌, refl, sym, ap, ap₂, subst, ◌∙◌}
 use mathlib.Core.Logic.{⊎_elim, ◌⊎◌, inl, inr}
 use mathlib.Core.Bool.{Bool, true, false, ◌&&◌}
 use mathlib.Core.List.{List, [], ◌∷◌, ◌++◌, map}
-use mathlib.Core.Option.{none, some}
+use Rattle.std.specs.Prelude.{None, Some}
 use native.Mathlib.Nat.{eq-or-lt_of_le, le_refl, le_of_lt}
 use native.Mathlib.Numerals.{add-one}
 use native.Mathlib.Omega.{arith}
@@ -283,23 +283,23 @@ module _
 -- ------------------------------------------------------------------ entering a row
 
 module _ (file w : List ℕ) (row : TypeData) where
-  pub found_below : (t : ℕ) → find_type (table_of file w) row ≡ some t → t < type_count w
+  pub found_below : (t : ℕ) → find_type (table_of file w) row ≡ Some t → t < type_count w
   found_below t e = omega (arith, getElem_below (table_of file w) t (find_type_some (table_of file w) row t e), length_table file w)
 
-  pub refused_types : find_type (table_of file w) row ≡ none → 256 ≤ type_count w → enter_type row (table_of file w) ≡ refused 9
+  pub refused_types : find_type (table_of file w) row ≡ None → 256 ≤ type_count w → enter_type row (table_of file w) ≡ refused 9
   unfolding has_room
   refused_types e full =
       enter_no_room row (table_of file w) e
       (ap (λ b. b && leb (table_items (table_of file w) + row_items row) 2048) (le-ltb (length (table_of file w)) 256 (omega (arith, length_table file w))))
 
-  pub refused_items : find_type (table_of file w) row ≡ none → type_count w < 256 → 2048 < table_items (table_of file w) + row_items row
+  pub refused_items : find_type (table_of file w) row ≡ None → type_count w < 256 → 2048 < table_items (table_of file w) + row_items row
       → enter_type row (table_of file w) ≡ refused 9
   unfolding has_room
   refused_items e types full =
       enter_no_room row (table_of file w) e
       (ap₂ ◌&&◌ (lt-ltb (length (table_of file w)) 256 (omega (arith, length_table file w))) (lt-leb (table_items (table_of file w) + row_items row) 2048 full))
 
-  pub entered_new : find_type (table_of file w) row ≡ none → type_count w < 256 → table_items (table_of file w) + row_items row ≤ 2048
+  pub entered_new : find_type (table_of file w) row ≡ None → type_count w < 256 → table_items (table_of file w) + row_items row ≤ 2048
       → enter_type row (table_of file w) ≡ answered (type_count w) (table_of file w ++ (row ∷ []))
   unfolding has_room
   entered_new e types fits =

@@ -2,7 +2,7 @@
 use Prim.Native.Nat.{ℕ, ◌+◌, ◌≤◌, ◌<◌}
 use mathlib.Core.Path.{◌≡◌, refl, sym, ap, subst, ◌∙◌}
 use mathlib.Core.List.{List}
-use mathlib.Core.Option.{none, some}
+use Rattle.std.specs.Prelude.{None, Some}
 use native.Mathlib.Omega.{arith}
 use lib.ListN.{length}
 use Rattle.resolution.specs.TypeData.{TypeData}
@@ -18,7 +18,7 @@ use Rattle.type_table.proofs.Growth.{grows_refl}
 use Rattle.type_table.proofs.Grow.{items_are, table_grown, sound_grown, rest_grown, found_below, entered_new, refused_types, refused_items}
 
 module _ (file w : List ℕ) (row : TypeData) (sound : Sound file w) where
-  pub interns_old : (t : ℕ) → find_type (table_of file w) row ≡ some t → Interns file row w w (Resolved.Answered t)
+  pub interns_old : (t : ℕ) → find_type (table_of file w) row ≡ Some t → Interns file row w w (Resolved.Answered t)
   interns_old t found = record {
     outcome = sym (enter_found row (table_of file w) t found);
     sound = sound;
@@ -36,11 +36,11 @@ module _ (file w : List ℕ) (row : TypeData) (sound : Sound file w) where
     kept = λ n h. refl;
   }
 
-  pub full_types : find_type (table_of file w) row ≡ none → 256 ≤ type_count w → Interns file row w w (Resolved.Refused 9)
+  pub full_types : find_type (table_of file w) row ≡ None → 256 ≤ type_count w → Interns file row w w (Resolved.Refused 9)
   full_types lost full = interns_not (refused_types file w row lost full)
 
 module _ (file : List ℕ) (head : Head) (names items w : List ℕ) (sound : Sound file w) (canonical : Canonical file head names items)
-    (lost : find_type (table_of file w) (data_from file head names items) ≡ none) (types : type_count w < 256) where
+    (lost : find_type (table_of file w) (data_from file head names items) ≡ None) (types : type_count w < 256) where
   pub full_items : 2048 < item_count w + length items → Interns file (data_from file head names items) w w (Resolved.Refused 9)
   full_items full =
       interns_not file w (data_from file head names items) sound

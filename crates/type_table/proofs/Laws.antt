@@ -4,7 +4,7 @@ use mathlib.Core.Path.{◌≡◌, refl, sym, ap, subst, subst⁻¹, ◌∙◌}
 use mathlib.Core.Bool.{Bool, true, false}
 use mathlib.Core.List.Memᴰ
 use mathlib.Core.List.{List, [], ◌∷◌, ◌++◌, Memᴰ}
-use mathlib.Core.Option.{Option, none, some}
+use Rattle.std.specs.Prelude.{Option, None, Some}
 use native.Mathlib.Nat.{not-suc-le-zero, le_of_suc-le-suc}
 use native.Mathlib.Omega.{arith}
 use lib.ListN.{length}
@@ -75,11 +75,11 @@ module _ {file : List ℕ} {row : TypeData} {w w' : List ℕ} {r : Resolved} (i 
   interned_ok = go (find_type (table_of file w) row) refl (has_room (table_of file w) row) refl
     where
       go : (o : Option ℕ) → find_type (table_of file w) row ≡ o → (b : Bool) → has_room (table_of file w) row ≡ b → TableOk (table_of file w')
-      go (some t) found b room =
+      go (Some t) found b room =
           subst⁻¹ TableOk (by_outcome r refl t (table_of file w) (i.outcome ∙ enter_found row (table_of file w) t found)) ok
-      go none found true room =
+      go None found true room =
           let new = enter_new row (table_of file w) found room in
           let same = by_outcome r refl (length (table_of file w)) (table_of file w ++ (row ∷ [])) (i.outcome ∙ new) in
           subst⁻¹ TableOk same (subst (OutcomeOk Below (table_of file w)) new (enter_ok (table_of file w) row ok (entered_inner same))).0
-      go none found false room =
+      go None found false room =
           subst⁻¹ (λ x. TableOk (table_of file x)) (by_refusal r refl 9 (i.outcome ∙ enter_no_room row (table_of file w) found room)) ok

@@ -2,11 +2,12 @@
 use Prim.Native.Nat.{ℕ, ◌+◌, ◌-◌, ◌≤◌, ◌<◌, zero-le}
 use mathlib.Core.Path.{◌≡◌, sym, ap, subst, ◌∙◌}
 use mathlib.Core.List.{List, [], ◌∷◌}
-use mathlib.Core.Option.{Option, none, some}
+use Rattle.std.specs.Prelude.{Option, None, Some}
 use native.Mathlib.Omega.{arith}
 use borrow.Author.Tests.{eq-eqb, ne_eqb}
 use lib.Dec.{eqb}
-use lib.ListN.{length, get_elem?}
+use Rattle.std.specs.Prelude.{slice_get}
+use lib.ListN.{length}
 use borrow.Enum.Refused.{Among}
 use denote.Enum.Declared.{tag_of}
 use Rattle.std.specs.Prelude.{if◌then◌else◌}
@@ -44,26 +45,26 @@ module _ {w : List ℕ} {t : ℕ} {row : Row} (r : DataRead w t row) where
     within = λ file sound list e. let z : ◌≡◌ {A = ℕ} 0 1 = cc in absurd (omega arith);
   }
 
-  pub pointer_found : {u : ℕ} → row ≡ Row.Pointer u → (file : List ℕ) → some u ≡ as_pointer (data_of (table_of file w) t)
+  pub pointer_found : {u : ℕ} → row ≡ Row.Pointer u → (file : List ℕ) → Some u ≡ as_pointer (data_of (table_of file w) t)
   unfolding as_pointer
   pointer_found e file = ap (λ x. as_pointer (data_is file w x)) (sym e) ∙ ap as_pointer (r.same file)
 
-  pub pointer_absent : Among (0 ∷ 1 ∷ 2 ∷ 3 ∷ 4 ∷ 5 ∷ 7 ∷ 8 ∷ 9 ∷ []) (tag_of the_type row) → (file : List ℕ) → none ≡ as_pointer (data_of (table_of file w) t)
+  pub pointer_absent : Among (0 ∷ 1 ∷ 2 ∷ 3 ∷ 4 ∷ 5 ∷ 7 ∷ 8 ∷ 9 ∷ []) (tag_of the_type row) → (file : List ℕ) → None ≡ as_pointer (data_of (table_of file w) t)
   pointer_absent h file = other_than_pointer file w row h ∙ ap as_pointer (r.same file)
 
-  pub array_found : {u size : ℕ} → row ≡ Row.FixedArray u size → (file : List ℕ) → Reads file w (array_read t) (some (record { element = u; size = size }))
+  pub array_found : {u size : ℕ} → row ≡ Row.FixedArray u size → (file : List ℕ) → Reads file w (array_read t) (Some (record { element = u; size = size }))
   unfolding as_array array_read
   array_found e file = record { same = ap (λ x. as_array (data_is file w x)) (sym e) ∙ ap as_array (r.same file) }
 
-  pub array_absent : Among (0 ∷ 1 ∷ 2 ∷ 3 ∷ 4 ∷ 5 ∷ 6 ∷ 8 ∷ 9 ∷ []) (tag_of the_type row) → (file : List ℕ) → Reads file w (array_read t) none
+  pub array_absent : Among (0 ∷ 1 ∷ 2 ∷ 3 ∷ 4 ∷ 5 ∷ 6 ∷ 8 ∷ 9 ∷ []) (tag_of the_type row) → (file : List ℕ) → Reads file w (array_read t) None
   unfolding array_read
   array_absent h file = record { same = other_than_array file w row h ∙ ap as_array (r.same file) }
 
-  pub struct_found : {m d : ℕ} {list : TypeList} → row ≡ Row.Struct m d list → (file : List ℕ) → some (fields_in file w list) ≡ as_struct (data_of (table_of file w) t)
+  pub struct_found : {m d : ℕ} {list : TypeList} → row ≡ Row.Struct m d list → (file : List ℕ) → Some (fields_in file w list) ≡ as_struct (data_of (table_of file w) t)
   unfolding as_struct
   struct_found e file = ap (λ x. as_struct (data_is file w x)) (sym e) ∙ ap as_struct (r.same file)
 
-  pub struct_absent : Among (0 ∷ 1 ∷ 2 ∷ 3 ∷ 4 ∷ 5 ∷ 6 ∷ 7 ∷ 9 ∷ []) (tag_of the_type row) → (file : List ℕ) → none ≡ as_struct (data_of (table_of file w) t)
+  pub struct_absent : Among (0 ∷ 1 ∷ 2 ∷ 3 ∷ 4 ∷ 5 ∷ 6 ∷ 7 ∷ 9 ∷ []) (tag_of the_type row) → (file : List ℕ) → None ≡ as_struct (data_of (table_of file w) t)
   struct_absent h file = other_than_struct file w row h ∙ ap as_struct (r.same file)
 
   pub signature_found : {m d u : ℕ} {list : TypeList} → row ≡ Row.Function m d list u → SignatureRead w t (FoundSignature.Found list u)
@@ -79,36 +80,36 @@ module _ {w : List ℕ} {t : ℕ} {row : Row} (r : DataRead w t row) where
     within = λ file sound list u e. let z : ◌≡◌ {A = ℕ} 0 1 = cc in absurd (omega arith);
   }
 
-  pub numeric_found : Among (0 ∷ 2 ∷ []) (tag_of the_type row) → (file : List ℕ) → Reads file w (numeric_read t) (some t)
+  pub numeric_found : Among (0 ∷ 2 ∷ []) (tag_of the_type row) → (file : List ℕ) → Reads file w (numeric_read t) (Some t)
   unfolding numeric_read numeric
   numeric_found h file = record {
-    same = ap (λ b. if b then some t else none) (sym (u32_or_felt file w row h)) ∙ ap (λ x. if is_u32_or_felt x then some t else none) (r.same file);
+    same = ap (λ b. if b then Some t else None) (sym (u32_or_felt file w row h)) ∙ ap (λ x. if is_u32_or_felt x then Some t else None) (r.same file);
   }
 
-  pub numeric_absent : Among (1 ∷ 3 ∷ 4 ∷ 5 ∷ 6 ∷ 7 ∷ 8 ∷ 9 ∷ []) (tag_of the_type row) → (file : List ℕ) → Reads file w (numeric_read t) none
+  pub numeric_absent : Among (1 ∷ 3 ∷ 4 ∷ 5 ∷ 6 ∷ 7 ∷ 8 ∷ 9 ∷ []) (tag_of the_type row) → (file : List ℕ) → Reads file w (numeric_read t) None
   unfolding numeric_read numeric
   numeric_absent h file = record {
-    same = ap (λ b. if b then some t else none) (sym (other_than_u32_or_felt file w row h)) ∙ ap (λ x. if is_u32_or_felt x then some t else none) (r.same file);
+    same = ap (λ b. if b then Some t else None) (sym (other_than_u32_or_felt file w row h)) ∙ ap (λ x. if is_u32_or_felt x then Some t else None) (r.same file);
   }
 
 -- ------------------------------------------------------------------ one read behind another
 
 -- what is there goes on, what is not ends
-pub some_read : {A B : Type 0} {o p : Option A} {x : A} (b : B) (f : A → B) → o ≡ p → o ≡ some x → f x ≡ let_some p b f
+pub some_read : {A B : Type 0} {o p : Option A} {x : A} (b : B) (f : A → B) → o ≡ p → o ≡ Some x → f x ≡ let_some p b f
 some_read b f same e = ap (λ o. let_some o b f) (sym e ∙ same)
 
-pub none_read : {A B : Type 0} {o p : Option A} (b : B) (f : A → B) → o ≡ p → o ≡ none → b ≡ let_some p b f
+pub none_read : {A B : Type 0} {o p : Option A} (b : B) (f : A → B) → o ≡ p → o ≡ None → b ≡ let_some p b f
 none_read b f same e = ap (λ o. let_some o b f) (sym e ∙ same)
 
 module _ (w : List ℕ) (context : Option ℕ) (count : ℕ) where
-  pub no_context : context ≡ none → ContextsRead w context count no_types
+  pub no_context : context ≡ None → ContextsRead w context count no_types
   unfolding element_contexts
   no_context e = record {
     same = λ file. ap (λ o. element_contexts (table_of file w) o count) (sym e);
     within = λ file sound. zero-le;
   }
 
-  module _ {t : ℕ} {r : FoundList} (is : context ≡ some t) (read : TupleRead w t r) where
+  module _ {t : ℕ} {r : FoundList} (is : context ≡ Some t) (read : TupleRead w t r) where
     contexts_of : (file : List ℕ) → let_some (found_types_of w r) [] (λ ts. if eqb (length ts) count then ts else []) ≡ element_contexts (table_of file w) context count
     unfolding element_contexts
     contexts_of file =
@@ -152,24 +153,24 @@ path_from words table at first count i = navigate table at (numbers_at words (fi
 
 module _ (words : List ℕ) (table : Table) (at first count i : ℕ) (below : i < count) where
   path_apart : path_from words table at first count i
-      ≡ let_some (as_tuple (data_of table at)) error (λ elements. let_some (get_elem? elements (item_value words (first + i))) error (λ t. path_from words table t first count (i + 1)))
+      ≡ let_some (as_tuple (data_of table at)) error (λ elements. let_some (slice_get elements (item_value words (first + i))) error (λ t. path_from words table t first count (i + 1)))
   unfolding navigate numbers_at
   path_apart = ap (navigate table at) (each_unroll (item_value words) first count i below)
 
-  pub path_no_tuple : {o : Option (List ℕ)} → o ≡ as_tuple (data_of table at) → o ≡ none → error ≡ path_from words table at first count i
+  pub path_no_tuple : {o : Option (List ℕ)} → o ≡ as_tuple (data_of table at) → o ≡ None → error ≡ path_from words table at first count i
   path_no_tuple same e =
-      none_read error (λ elements. let_some (get_elem? elements (item_value words (first + i))) error (λ t. path_from words table t first count (i + 1))) same e ∙ sym path_apart
+      none_read error (λ elements. let_some (slice_get elements (item_value words (first + i))) error (λ t. path_from words table t first count (i + 1))) same e ∙ sym path_apart
 
-  module _ {o : Option (List ℕ)} {elements : List ℕ} (same : o ≡ as_tuple (data_of table at)) (e : o ≡ some elements)
-      {p : Option ℕ} {index : ℕ} (is : p ≡ get_elem? elements index) (read : index ≡ item_value words (first + i)) where
+  module _ {o : Option (List ℕ)} {elements : List ℕ} (same : o ≡ as_tuple (data_of table at)) (e : o ≡ Some elements)
+      {p : Option ℕ} {index : ℕ} (is : p ≡ slice_get elements index) (read : index ≡ item_value words (first + i)) where
     path_element : let_some p error (λ t. path_from words table t first count (i + 1)) ≡ path_from words table at first count i
     path_element =
-        ap (λ x. let_some x error (λ t. path_from words table t first count (i + 1))) (is ∙ ap (get_elem? elements) read)
-        ∙ some_read error (λ elements. let_some (get_elem? elements (item_value words (first + i))) error (λ t. path_from words table t first count (i + 1))) same e
+        ap (λ x. let_some x error (λ t. path_from words table t first count (i + 1))) (is ∙ ap (slice_get elements) read)
+        ∙ some_read error (λ elements. let_some (slice_get elements (item_value words (first + i))) error (λ t. path_from words table t first count (i + 1))) same e
         ∙ sym path_apart
 
-    pub path_no_element : p ≡ none → error ≡ path_from words table at first count i
+    pub path_no_element : p ≡ None → error ≡ path_from words table at first count i
     path_no_element h = ap (λ x. let_some x error (λ t. path_from words table t first count (i + 1))) (sym h) ∙ path_element
 
-    pub path_on : {t : ℕ} → p ≡ some t → path_from words table at first count i ≡ path_from words table t first count (i + 1)
+    pub path_on : {t : ℕ} → p ≡ Some t → path_from words table at first count i ≡ path_from words table t first count (i + 1)
     path_on h = sym (ap (λ x. let_some x error (λ t. path_from words table t first count (i + 1))) (sym h) ∙ path_element)

@@ -3,7 +3,7 @@ use Prim.Native.Nat.{ℕ, zero, suc, ◌+◌, ◌≤◌, ◌<◌, zero-le, suc-l
 use mathlib.Core.Path.{◌≡◌, refl, sym, ap, ap₂, ◌∙◌}
 use mathlib.Core.Bool.{Bool, true, false}
 use mathlib.Core.List.{List, [], ◌∷◌}
-use mathlib.Core.Option.{none, some}
+use Rattle.std.specs.Prelude.{None, Some}
 use native.Mathlib.Nat.{not-suc-le-zero, le_of_suc-le-suc}
 use native.Mathlib.Numerals.{add-one}
 use native.Mathlib.Omega.{arith}
@@ -18,23 +18,23 @@ use Rattle.records.specs.Layout.{name_by}
 use Rattle.type_table.specs.Layout.{row_at, rows_of, table_of, type_count, fields_of}
 use Rattle.type_table.proofs.Rows.{length_rows, rows_get}
 
-first_none : {A : Type 0} (test : A → Bool) (d : A) (l : List A) → ((k : ℕ) → k < length l → test (get_or l k d) ≡ false) → first test l ≡ none
+first_none : {A : Type 0} (test : A → Bool) (d : A) (l : List A) → ((k : ℕ) → k < length l → test (get_or l k d) ≡ false) → first test l ≡ None
 unfolding first
 first_none test d [] all = refl
 first_none test d (x ∷ l) all =
-    ap₂ (λ b r. if b then some zero else next r) (all zero (suc-le-suc zero-le)) (first_none test d l (λ k below. all (suc k) (suc-le-suc below)))
+    ap₂ (λ b r. if b then Some zero else next r) (all zero (suc-le-suc zero-le)) (first_none test d l (λ k below. all (suc k) (suc-le-suc below)))
 
 first_at : {A : Type 0} (test : A → Bool) (d : A) (l : List A) (i : ℕ) → i < length l → test (get_or l i d) ≡ true
-    → ((k : ℕ) → k < i → test (get_or l k d) ≡ false) → first test l ≡ some i
+    → ((k : ℕ) → k < i → test (get_or l k d) ≡ false) → first test l ≡ Some i
 unfolding first
 first_at test d [] i below here all = absurd (not-suc-le-zero below)
-first_at test d (x ∷ l) zero below here all = ap (λ b. if b then some zero else next (first test l)) here
+first_at test d (x ∷ l) zero below here all = ap (λ b. if b then Some zero else next (first test l)) here
 first_at test d (x ∷ l) (suc i) below here all =
-    ap₂ (λ b r. if b then some zero else next r) (all zero (suc-le-suc zero-le))
+    ap₂ (λ b r. if b then Some zero else next r) (all zero (suc-le-suc zero-le))
     (first_at test d l i (le_of_suc-le-suc below) here (λ k lower. all (suc k) (suc-le-suc lower)))
 
 module _ (file w : List ℕ) (row : TypeData) where
-  pub found_none : ((k : ℕ) → k < type_count w → eq_type row (row_at file w k) ≡ false) → find_type (table_of file w) row ≡ none
+  pub found_none : ((k : ℕ) → k < type_count w → eq_type row (row_at file w k) ≡ false) → find_type (table_of file w) row ≡ None
   unfolding find_type table_of
   found_none all =
       first_none (λ other. eq_type row other) TypeData.Error (rows_of file w (type_count w))
@@ -44,7 +44,7 @@ module _ (file w : List ℕ) (row : TypeData) where
       within k below = omega (arith, length_rows file w (type_count w))
 
   pub found_at : (t : ℕ) → t < type_count w → eq_type row (row_at file w t) ≡ true → ((k : ℕ) → k < t → eq_type row (row_at file w k) ≡ false)
-      → find_type (table_of file w) row ≡ some t
+      → find_type (table_of file w) row ≡ Some t
   unfolding find_type table_of
   found_at t below here all =
       first_at (λ other. eq_type row other) TypeData.Error (rows_of file w (type_count w)) t (omega (arith, length_rows file w (type_count w)))
@@ -56,23 +56,23 @@ module _ (file w : List ℕ) (row : TypeData) where
 module _ (file : List ℕ) (names items : List ℕ) (name : Name) (i : ℕ) where
   taken_apart : i < length names → i < length items
       → field_type (fields_of file (drop i names) (drop i items)) name
-      ≡ (if eq_numbers (name_by file (get_or names i 0)) name then some (get_or items i 0) else field_type (fields_of file (drop (suc i) names) (drop (suc i) items)) name)
+      ≡ (if eq_numbers (name_by file (get_or names i 0)) name then Some (get_or items i 0) else field_type (fields_of file (drop (suc i) names) (drop (suc i) items)) name)
   unfolding fields_of field_type
   taken_apart hn hi = ap₂ (λ x y. field_type (fields_of file x y) name) (drop-cons names i 0 hn) (drop-cons items i 0 hi)
 
   pub field_here : i < length names → i < length items → eq_numbers (name_by file (get_or names i 0)) name ≡ true
-      → field_type (fields_of file (drop i names) (drop i items)) name ≡ some (get_or items i 0)
+      → field_type (fields_of file (drop i names) (drop i items)) name ≡ Some (get_or items i 0)
   field_here hn hi e =
       taken_apart hn hi
-      ∙ ap (λ b. if b then some (get_or items i 0) else field_type (fields_of file (drop (suc i) names) (drop (suc i) items)) name) e
+      ∙ ap (λ b. if b then Some (get_or items i 0) else field_type (fields_of file (drop (suc i) names) (drop (suc i) items)) name) e
 
   pub field_there : i < length names → i < length items → eq_numbers (name_by file (get_or names i 0)) name ≡ false
       → field_type (fields_of file (drop i names) (drop i items)) name ≡ field_type (fields_of file (drop (i + 1) names) (drop (i + 1) items)) name
   field_there hn hi e =
       taken_apart hn hi
-      ∙ ap (λ b. if b then some (get_or items i 0) else field_type (fields_of file (drop (suc i) names) (drop (suc i) items)) name) e
+      ∙ ap (λ b. if b then Some (get_or items i 0) else field_type (fields_of file (drop (suc i) names) (drop (suc i) items)) name) e
       ∙ sym (ap (λ n. field_type (fields_of file (drop n names) (drop n items)) name) (add-one i))
 
-  pub field_none : length names ≤ i → field_type (fields_of file (drop i names) (drop i items)) name ≡ none
+  pub field_none : length names ≤ i → field_type (fields_of file (drop i names) (drop i items)) name ≡ None
   unfolding fields_of field_type
   field_none past = ap (λ x. field_type (fields_of file x (drop i items)) name) (drop_of_length-le names past)

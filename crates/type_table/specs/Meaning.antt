@@ -1,6 +1,6 @@
 -- What the values of the code mean in the definition: a list is a range of the items. Definitions only; assumes nothing.
 use Rattle.std.specs.Prelude.{ℕ, List}
-use Rattle.std.proofs.Math.Option.{Option, none, some}
+use Rattle.std.specs.Prelude.{Option, None, Some}
 use Rattle.model.specs.Records.{NameWithType}
 use Rattle.resolution.specs.TypeData.{TypeData}
 use Rattle.resolution.specs.Types.{Array, Signature}
@@ -49,21 +49,21 @@ list_of (Function m d list t) = list
 -- ------------------------------------------------------------------ what may be absent
 
 abbrev pub found_type_of : FoundType → Option ℕ
-found_type_of FoundType.Absent = none
-found_type_of (FoundType.Found t) = some t
+found_type_of FoundType.Absent = None
+found_type_of (FoundType.Found t) = Some t
 
 abbrev pub found_types_of : List ℕ → FoundList → Option (List ℕ)
-found_types_of w FoundList.Absent = none
-found_types_of w (FoundList.Found list) = some (types_of w list)
+found_types_of w FoundList.Absent = None
+found_types_of w (FoundList.Found list) = Some (types_of w list)
 
 abbrev pub found_fields_of : List ℕ → List ℕ → FoundList → Option (List NameWithType)
-found_fields_of file w FoundList.Absent = none
-found_fields_of file w (FoundList.Found list) = some (fields_in file w list)
+found_fields_of file w FoundList.Absent = None
+found_fields_of file w (FoundList.Found list) = Some (fields_in file w list)
 
 abbrev pub found_array_of : FoundArray → Option Array
-found_array_of FoundArray.Absent = none
-found_array_of (FoundArray.Found t size) = some (record { element = t; size = size })
+found_array_of FoundArray.Absent = None
+found_array_of (FoundArray.Found t size) = Some (record { element = t; size = size })
 
 abbrev pub found_signature_of : List ℕ → FoundSignature → Option Signature
-found_signature_of w FoundSignature.Absent = none
-found_signature_of w (FoundSignature.Found list t) = some (record { params = types_of w list; return_type = t })
+found_signature_of w FoundSignature.Absent = None
+found_signature_of w (FoundSignature.Found list t) = Some (record { params = types_of w list; return_type = t })

@@ -1,6 +1,6 @@
 -- The promises of the functions over the type buffer. Definitions only; assumes nothing.
 use Rattle.std.specs.Prelude.{ℕ, ◌+◌, ◌*◌, ◌≤◌, ◌<◌, min, ◌≡◌, Bool, ◌&&◌, List, ◌++◌, map, eqb, length, drop, replicate, set}
-use Rattle.std.proofs.Math.Option.{Option}
+use Rattle.std.specs.Prelude.{Option}
 use Rattle.model.specs.Common.{eq_numbers}
 use Rattle.records.specs.Layout.{word, name_by, item_name}
 use Rattle.resolution.specs.TypeData.{TypeData}

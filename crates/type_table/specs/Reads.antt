@@ -1,8 +1,8 @@
 -- What the programs of the definition read from the table of types between one demand and the next: each is the end of a program of
 -- `TypeResolution` behind its last demand. Definitions only; assumes nothing.
 use Rattle.std.specs.Prelude.{ℕ, List}
-use Rattle.std.proofs.Math.Option.{Option, none, some}
-use Rattle.std.proofs.Math.ListN.{get_elem?}
+use Rattle.std.specs.Prelude.{Option, None, Some}
+use Rattle.std.specs.Prelude.{slice_get}
 use Rattle.model.specs.Common.{let_some}
 use Rattle.model.specs.Records.{Name}
 use Rattle.resolution.specs.Types.{Table, Array, data_of, as_tuple, as_pointer, as_array, as_struct, as_function, field_type, error}
@@ -25,15 +25,15 @@ element_read t table =
 -- an element of a tuple: `tuple_index_type`
 unfoldable pub tuple_element_read : ℕ → ℕ → Table → ℕ
 tuple_element_read t i table =
-    let_some (as_tuple (data_of table t)) error (λ elements. let_some (get_elem? elements i) error (λ u. u))
+    let_some (as_tuple (data_of table t)) error (λ elements. let_some (slice_get elements i) error (λ u. u))
 
 -- a parameter of a function: `signature_param`
 unfoldable pub param_read : ℕ → ℕ → Table → Option ℕ
-param_read t i table = let_some (as_function (data_of table t)) none (λ signature. get_elem? signature.params i)
+param_read t i table = let_some (as_function (data_of table t)) None (λ signature. slice_get signature.params i)
 
 -- what a function returns: `signature_return_type`
 unfoldable pub return_read : ℕ → Table → Option ℕ
-return_read t table = let_some (as_function (data_of table t)) none (λ signature. some signature.return_type)
+return_read t table = let_some (as_function (data_of table t)) None (λ signature. Some signature.return_type)
 
 -- the element and the size of an array: `array_type`, `empty_array_type`
 unfoldable pub array_read : ℕ → Table → Option Array

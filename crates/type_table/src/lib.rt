@@ -2,7 +2,7 @@
 #![tactic(auto)]
 
 ghost use Rattle.std.specs.Prelude.{◌≡◌, ℕ, ◌+◌, ◌≤◌, ◌<◌, List, map, length};
-ghost use Rattle.std.proofs.Math.ListN.{get_elem?};
+ghost use Rattle.std.specs.Prelude.{slice_get};
 ghost use Rattle.model.specs.Common.{eq_numbers};
 ghost use Rattle.records.specs.Layout.{name_by};
 ghost use Rattle.records.specs.Meaning.{name_of, numbers_of, names_with_types_of, suffix_of};
@@ -362,7 +362,7 @@ pub fn numeric(types: &[u32], t: u32) -> FoundType
 
 // An element of a tuple, or a parameter of a function, by its place in the list.
 pub fn item(types: &[u32], list: TypeList, i: u32) -> FoundType
-    ensures { found_type_of result ≡ get_elem? (types_of types.now list) i }
+    ensures { found_type_of result ≡ slice_get (types_of types.now list) i }
 {
     let listed = words_from(types, ITEMS + (list.first as usize), list.count as usize);
     let place = i as usize;

@@ -3,7 +3,7 @@ use mathlib.Core.Path.{◌≡◌, sym, ap, ◌∙◌}
 use mathlib.Core.Bool.{Bool, true, false, not}
 use Prim.Native.Nat.{ℕ}
 use mathlib.Core.List.{List}
-use mathlib.Core.Option.{Option, none, some}
+use Rattle.std.specs.Prelude.{Option, None, Some}
 use native.Mathlib.Omega.{arith}
 use Rattle.std.specs.Prelude.{if◌then◌else◌}
 use Rattle.model.specs.Records.{Name, TypeExpr, BinaryOp, Definition, ExpressionInfo, Module, Index}
@@ -54,71 +54,71 @@ use Rattle.views.specs.Reads.{argument_definition, field_type_expr, imported_def
 -- ------------------------------------------------------------------ what was found
 
 module _ (file words : List ℕ) (r : FoundTypeExpr) (o : Option TypeExpr) (is : found_type_expr_of file words r ≡ o) where
-  pub no_type_expr : r ≡ FoundTypeExpr.Absent → o ≡ none
+  pub no_type_expr : r ≡ FoundTypeExpr.Absent → o ≡ None
   no_type_expr h = sym is ∙ ap (found_type_expr_of file words) h
 
-  pub a_type_expr : (x : DeclaredTypeExpr) → r ≡ FoundTypeExpr.Found x → o ≡ some (type_expr_of file words x)
+  pub a_type_expr : (x : DeclaredTypeExpr) → r ≡ FoundTypeExpr.Found x → o ≡ Some (type_expr_of file words x)
   a_type_expr x h = sym is ∙ ap (found_type_expr_of file words) h
 
 module _ (file words : List ℕ) (r : FoundDefinition) (o : Option Definition) (is : found_definition_of file words r ≡ o) where
-  pub no_definition : r ≡ FoundDefinition.Absent → o ≡ none
+  pub no_definition : r ≡ FoundDefinition.Absent → o ≡ None
   no_definition h = sym is ∙ ap (found_definition_of file words) h
 
-  pub a_definition : (x : DeclaredDefinition) → r ≡ FoundDefinition.Found x → o ≡ some (definition_of file words x)
+  pub a_definition : (x : DeclaredDefinition) → r ≡ FoundDefinition.Found x → o ≡ Some (definition_of file words x)
   a_definition x h = sym is ∙ ap (found_definition_of file words) h
 
 module _ (file words : List ℕ) (r : FoundExpression) (o : Option ExpressionInfo) (is : found_expression_of file words r ≡ o) where
-  pub no_expression : r ≡ FoundExpression.Absent → o ≡ none
+  pub no_expression : r ≡ FoundExpression.Absent → o ≡ None
   no_expression h = sym is ∙ ap (found_expression_of file words) h
 
-  pub an_expression : (x : DeclaredInfo) → r ≡ FoundExpression.Found x → o ≡ some (info_of file words x)
+  pub an_expression : (x : DeclaredInfo) → r ≡ FoundExpression.Found x → o ≡ Some (info_of file words x)
   an_expression x h = sym is ∙ ap (found_expression_of file words) h
 
 module _ (r : ModuleLink) (o : Option ℕ) (is : module_link_of r ≡ o) where
-  pub no_module : r ≡ ModuleLink.Absent → o ≡ none
+  pub no_module : r ≡ ModuleLink.Absent → o ≡ None
   no_module h = sym is ∙ ap module_link_of h
 
-  pub to_module : (m : ℕ) → r ≡ ModuleLink.To m → o ≡ some m
+  pub to_module : (m : ℕ) → r ≡ ModuleLink.To m → o ≡ Some m
   to_module m h = sym is ∙ ap module_link_of h
 
 module _ (r : ScopeLink) (o : Option ℕ) (is : scope_link_of r ≡ o) where
-  pub no_scope : r ≡ ScopeLink.Absent → o ≡ none
+  pub no_scope : r ≡ ScopeLink.Absent → o ≡ None
   no_scope h = sym is ∙ ap scope_link_of h
 
-  pub to_scope : (s : FileScopeId) → r ≡ ScopeLink.To s → o ≡ some s.0
+  pub to_scope : (s : FileScopeId) → r ≡ ScopeLink.To s → o ≡ Some s.0
   to_scope s h = sym is ∙ ap scope_link_of h
 
 module _ (r : DefinitionLink) (o : Option ℕ) (is : definition_link_of r ≡ o) where
-  pub no_link : r ≡ DefinitionLink.Absent → o ≡ none
+  pub no_link : r ≡ DefinitionLink.Absent → o ≡ None
   no_link h = sym is ∙ ap definition_link_of h
 
-  pub to_definition : (d : DefinitionIndex) → r ≡ DefinitionLink.To d → o ≡ some d.0
+  pub to_definition : (d : DefinitionIndex) → r ≡ DefinitionLink.To d → o ≡ Some d.0
   to_definition d h = sym is ∙ ap definition_link_of h
 
 module _ (r : TypeLink) (o : Option ℕ) (is : type_link_of r ≡ o) where
-  pub no_type : r ≡ TypeLink.Absent → o ≡ none
+  pub no_type : r ≡ TypeLink.Absent → o ≡ None
   no_type h = sym is ∙ ap type_link_of h
 
-  pub to_type : (t : ℕ) → r ≡ TypeLink.To t → o ≡ some t
+  pub to_type : (t : ℕ) → r ≡ TypeLink.To t → o ≡ Some t
   to_type t h = sym is ∙ ap type_link_of h
 
 -- ------------------------------------------------------------------ types and operands
 
 module _ (the_module : Module) (t : ℕ) where
-  pub array_absent : type_expr_at the_module t ≡ none → false ≡ names_array_expr the_module t
+  pub array_absent : type_expr_at the_module t ≡ None → false ≡ names_array_expr the_module t
   unfolding names_array_expr
   array_absent h = rw h
 
-  pub array_found : (x : TypeExpr) (b : Bool) → type_expr_at the_module t ≡ some x → b ≡ is_array_expr x → b ≡ names_array_expr the_module t
+  pub array_found : (x : TypeExpr) (b : Bool) → type_expr_at the_module t ≡ Some x → b ≡ is_array_expr x → b ≡ names_array_expr the_module t
   unfolding names_array_expr
   array_found x b h e = rw h e
 
 module _ (the_module : Module) (e : ℕ) where
-  pub operand_absent : expression_at the_module e ≡ none → false ≡ operand_is_unsuffixed_literal the_module e
+  pub operand_absent : expression_at the_module e ≡ None → false ≡ operand_is_unsuffixed_literal the_module e
   unfolding operand_is_unsuffixed_literal
   operand_absent h = rw h
 
-  pub operand_found : (x : ExpressionInfo) (b : Bool) → expression_at the_module e ≡ some x → b ≡ is_unsuffixed_literal x.node
+  pub operand_found : (x : ExpressionInfo) (b : Bool) → expression_at the_module e ≡ Some x → b ≡ is_unsuffixed_literal x.node
       → b ≡ operand_is_unsuffixed_literal the_module e
   unfolding operand_is_unsuffixed_literal
   operand_found x b h same = rw h same
@@ -146,32 +146,32 @@ module _ (the_module : Module) (callee : ExpressionLink) where
   callee_absent h = rw h
 
   module _ (x : ExpressionId) (to : callee ≡ ExpressionLink.To x) where
-    pub callee_lost : expression_at the_module x.0 ≡ none → false ≡ callee_is_builtin the_module (expression_link_of callee)
+    pub callee_lost : expression_at the_module x.0 ≡ None → false ≡ callee_is_builtin the_module (expression_link_of callee)
     unfolding callee_is_builtin
     callee_lost h = rw (to, h)
 
-    pub callee_other : (info : ExpressionInfo) → expression_at the_module x.0 ≡ some info → as_identifier info.node ≡ none
+    pub callee_other : (info : ExpressionInfo) → expression_at the_module x.0 ≡ Some info → as_identifier info.node ≡ None
         → false ≡ callee_is_builtin the_module (expression_link_of callee)
     unfolding callee_is_builtin
     callee_other info h k = rw (to, h, k)
 
-    pub callee_named : (info : ExpressionInfo) (name : Name) (b : Bool) → expression_at the_module x.0 ≡ some info
-        → as_identifier info.node ≡ some name → b ≡ is_builtin_function_name name
+    pub callee_named : (info : ExpressionInfo) (name : Name) (b : Bool) → expression_at the_module x.0 ≡ Some info
+        → as_identifier info.node ≡ Some name → b ≡ is_builtin_function_name name
         → b ≡ callee_is_builtin the_module (expression_link_of callee)
     unfolding callee_is_builtin
     callee_named info name b h k e = rw (to, h, k) e
 
 module _ (the_module : Module) (callee : ℕ) where
-  pub argument_absent : expression_at the_module callee ≡ none → none ≡ argument_definition the_module callee
+  pub argument_absent : expression_at the_module callee ≡ None → None ≡ argument_definition the_module callee
   unfolding argument_definition
   argument_absent h = rw h
 
-  module _ (info : ExpressionInfo) (found : expression_at the_module callee ≡ some info) where
-    pub argument_other : as_identifier info.node ≡ none → none ≡ argument_definition the_module callee
+  module _ (info : ExpressionInfo) (found : expression_at the_module callee ≡ Some info) where
+    pub argument_other : as_identifier info.node ≡ None → None ≡ argument_definition the_module callee
     unfolding argument_definition
     argument_other h = rw (found, h)
 
-    pub argument_named : (name : Name) (o : Option ℕ) → as_identifier info.node ≡ some name → o ≡ definition_for_identifier_expr the_module callee
+    pub argument_named : (name : Name) (o : Option ℕ) → as_identifier info.node ≡ Some name → o ≡ definition_for_identifier_expr the_module callee
         → o ≡ argument_definition the_module callee
     unfolding argument_definition
     argument_named name o h e = e ∙ rw (found, h)
@@ -179,75 +179,75 @@ module _ (the_module : Module) (callee : ℕ) where
 -- ------------------------------------------------------------------ fields
 
 module _ (the_module : Module) (parent : ℕ) (field : Name) where
-  pub literal_absent : expression_at the_module parent ≡ none → none ≡ field_type_expr the_module parent field
+  pub literal_absent : expression_at the_module parent ≡ None → None ≡ field_type_expr the_module parent field
   unfolding field_type_expr
   literal_absent h = rw h
 
-  module _ (info : ExpressionInfo) (found : expression_at the_module parent ≡ some info) where
-    pub no_literal : as_struct_literal info.node ≡ none → none ≡ field_type_expr the_module parent field
+  module _ (info : ExpressionInfo) (found : expression_at the_module parent ≡ Some info) where
+    pub no_literal : as_struct_literal info.node ≡ None → None ≡ field_type_expr the_module parent field
     unfolding field_type_expr
     no_literal h = rw (found, h)
 
-    module _ (literal : SpannedName) (is : as_struct_literal info.node ≡ some literal) where
-      pub struct_absent : resolve_name_at_position the_module literal.name info.scope literal.start literal.end ≡ none
-          → none ≡ field_type_expr the_module parent field
+    module _ (literal : SpannedName) (is : as_struct_literal info.node ≡ Some literal) where
+      pub struct_absent : resolve_name_at_position the_module literal.name info.scope literal.start literal.end ≡ None
+          → None ≡ field_type_expr the_module parent field
       unfolding field_type_expr
       struct_absent h = rw (found, is, h)
 
-      module _ (d : ℕ) (to : resolve_name_at_position the_module literal.name info.scope literal.start literal.end ≡ some d) where
-        pub struct_lost : definition_at the_module d ≡ none → none ≡ field_type_expr the_module parent field
+      module _ (d : ℕ) (to : resolve_name_at_position the_module literal.name info.scope literal.start literal.end ≡ Some d) where
+        pub struct_lost : definition_at the_module d ≡ None → None ≡ field_type_expr the_module parent field
         unfolding field_type_expr
         struct_lost h = rw (found, is, to, h)
 
-        module _ (definition : Definition) (at : definition_at the_module d ≡ some definition) where
-          pub field_absent : struct_field definition.kind field ≡ none → none ≡ field_type_expr the_module parent field
+        module _ (definition : Definition) (at : definition_at the_module d ≡ Some definition) where
+          pub field_absent : struct_field definition.kind field ≡ None → None ≡ field_type_expr the_module parent field
           unfolding field_type_expr
           field_absent h = rw (found, is, to, at, h)
 
-          pub field_found : (t : ℕ) → struct_field definition.kind field ≡ some t
-              → some (record { type = t; scope = info.scope }) ≡ field_type_expr the_module parent field
+          pub field_found : (t : ℕ) → struct_field definition.kind field ≡ Some t
+              → Some (record { type = t; scope = info.scope }) ≡ field_type_expr the_module parent field
           unfolding field_type_expr
           field_found t h = rw (found, is, to, at, h)
 
 -- ------------------------------------------------------------------ definitions behind a name
 
 -- a module that was asked for by its number
-pub module_past : (o : Option Module) (x : Module) (b : Bool) → o ≡ (if b then some x else none) → not b ≡ true → o ≡ none
+pub module_past : (o : Option Module) (x : Module) (b : Bool) → o ≡ (if b then Some x else None) → not b ≡ true → o ≡ None
 module_past o x true e h = let z : ◌≡◌ {A = ℕ} 0 1 = cc in absurd (omega arith)
 module_past o x false e h = e
 
-pub module_there : (o : Option Module) (x : Module) (b : Bool) → o ≡ (if b then some x else none) → not b ≡ false → o ≡ some x
+pub module_there : (o : Option Module) (x : Module) (b : Bool) → o ≡ (if b then Some x else None) → not b ≡ false → o ≡ Some x
 module_there o x true e h = e
 module_there o x false e h = let z : ◌≡◌ {A = ℕ} 0 1 = cc in absurd (omega arith)
 
 module _ (index : Index) (imported_module item : Name) where
-  pub import_unknown : module_by_name index imported_module ≡ none → none ≡ imported_definition index imported_module item
+  pub import_unknown : module_by_name index imported_module ≡ None → None ≡ imported_definition index imported_module item
   unfolding imported_definition
   import_unknown h = rw h
 
-  module _ (m : ℕ) (to : module_by_name index imported_module ≡ some m) where
-    pub import_lost : module_at index m ≡ none → none ≡ imported_definition index imported_module item
+  module _ (m : ℕ) (to : module_by_name index imported_module ≡ Some m) where
+    pub import_lost : module_at index m ≡ None → None ≡ imported_definition index imported_module item
     unfolding imported_definition
     import_lost h = rw (to, h)
 
-    module _ (imported : Module) (at : module_at index m ≡ some imported) where
-      pub import_rootless : root_scope imported ≡ none → none ≡ imported_definition index imported_module item
+    module _ (imported : Module) (at : module_at index m ≡ Some imported) where
+      pub import_rootless : root_scope imported ≡ None → None ≡ imported_definition index imported_module item
       unfolding imported_definition
       import_rootless h = rw (to, at, h)
 
-      module _ (s : ℕ) (root : root_scope imported ≡ some s) where
-        pub import_absent : latest_definition_index_by_name imported s item ≡ none → none ≡ imported_definition index imported_module item
+      module _ (s : ℕ) (root : root_scope imported ≡ Some s) where
+        pub import_absent : latest_definition_index_by_name imported s item ≡ None → None ≡ imported_definition index imported_module item
         unfolding imported_definition
         import_absent h = rw (to, at, root, h)
 
-        pub import_found : (d : ℕ) → latest_definition_index_by_name imported s item ≡ some d
-            → some (record { source = m; definition = d }) ≡ imported_definition index imported_module item
+        pub import_found : (d : ℕ) → latest_definition_index_by_name imported s item ≡ Some d
+            → Some (record { source = m; definition = d }) ≡ imported_definition index imported_module item
         unfolding imported_definition
         import_found d h = rw (to, at, root, h)
 
 module _ (the_module : Module) (definition : DefinitionLink) (name : Name) (s start end : ℕ) where
   pub identifier_recorded : (d : DefinitionIndex) → definition ≡ DefinitionLink.To d
-      → some d.0 ≡ identifier_definition the_module (definition_link_of definition) name s start end
+      → Some d.0 ≡ identifier_definition the_module (definition_link_of definition) name s start end
   unfolding identifier_definition
   identifier_recorded d h = rw h
 

@@ -3,7 +3,7 @@ use mathlib.Core.Path.{◌≡◌, refl}
 use mathlib.Core.Bool.{true, false}
 use Prim.Native.Nat.{ℕ}
 use mathlib.Core.List.{List, [], ◌∷◌}
-use mathlib.Core.Option.{Option, none, some}
+use Rattle.std.specs.Prelude.{Option, None, Some}
 use types.Run.{miss}
 use borrow.Enum.Refused.{Among, opened}
 use denote.Enum.Declared.{tag_of}
@@ -104,7 +104,7 @@ other_than_literal file words (Expression.Cast t) h = refl
 other_than_literal file words (Expression.New t e) h = refl
 other_than_literal file words (Expression.Parenthesized e) h = refl
 
-pub other_than_identifier : (file words : List ℕ) (node : Expression) → Among (0 ∷ 1 ∷ 3 ∷ 4 ∷ 5 ∷ 6 ∷ 7 ∷ 8 ∷ 9 ∷ 10 ∷ 11 ∷ 12 ∷ 13 ∷ 14 ∷ 15 ∷ []) (tag_of expression.the_type node) → as_identifier (expression_of file words node) ≡ none
+pub other_than_identifier : (file words : List ℕ) (node : Expression) → Among (0 ∷ 1 ∷ 3 ∷ 4 ∷ 5 ∷ 6 ∷ 7 ∷ 8 ∷ 9 ∷ 10 ∷ 11 ∷ 12 ∷ 13 ∷ 14 ∷ 15 ∷ []) (tag_of expression.the_type node) → as_identifier (expression_of file words node) ≡ None
 unfolding as_identifier
 other_than_identifier file words (Expression.Literal s) h = refl
 other_than_identifier file words Expression.BooleanLiteral h = refl
@@ -123,7 +123,7 @@ other_than_identifier file words (Expression.Cast t) h = refl
 other_than_identifier file words (Expression.New t e) h = refl
 other_than_identifier file words (Expression.Parenthesized e) h = refl
 
-pub other_than_struct_literal : (file words : List ℕ) (node : Expression) → Among (0 ∷ 1 ∷ 2 ∷ 3 ∷ 4 ∷ 5 ∷ 6 ∷ 7 ∷ 9 ∷ 10 ∷ 11 ∷ 12 ∷ 13 ∷ 14 ∷ 15 ∷ []) (tag_of expression.the_type node) → as_struct_literal (expression_of file words node) ≡ none
+pub other_than_struct_literal : (file words : List ℕ) (node : Expression) → Among (0 ∷ 1 ∷ 2 ∷ 3 ∷ 4 ∷ 5 ∷ 6 ∷ 7 ∷ 9 ∷ 10 ∷ 11 ∷ 12 ∷ 13 ∷ 14 ∷ 15 ∷ []) (tag_of expression.the_type node) → as_struct_literal (expression_of file words node) ≡ None
 unfolding as_struct_literal
 other_than_struct_literal file words (Expression.Literal s) h = refl
 other_than_struct_literal file words Expression.BooleanLiteral h = refl
@@ -152,12 +152,12 @@ module _ (file words : List ℕ) (node : Expression) where
   unfolding is_unsuffixed_literal
   suffixed s n h e = rw (h, e)
 
-  pub an_identifier : (n : DeclaredName) → node ≡ Expression.Identifier n → as_identifier (expression_of file words node) ≡ some (name_of file n)
+  pub an_identifier : (n : DeclaredName) → node ≡ Expression.Identifier n → as_identifier (expression_of file words node) ≡ Some (name_of file n)
   unfolding as_identifier
   an_identifier n h = rw h
 
   pub a_struct_literal : (n : DeclaredName) (start end : ℕ) → node ≡ Expression.StructLiteral n start end
-      → as_struct_literal (expression_of file words node) ≡ some (record { name = name_of file n; start = start; end = end })
+      → as_struct_literal (expression_of file words node) ≡ Some (record { name = name_of file n; start = start; end = end })
   unfolding as_struct_literal
   a_struct_literal n start end h = rw h
 
@@ -167,7 +167,7 @@ pub a_struct : (file words : List ℕ) (name : Name) (kind : DefinitionKind) (fi
 unfolding struct_field
 a_struct file words name kind fields o h e = rw h e
 
-pub other_than_struct : (file words : List ℕ) (name : Name) (kind : DefinitionKind) → Among (0 ∷ 2 ∷ 3 ∷ 4 ∷ 5 ∷ 6 ∷ []) (tag_of definition_kind.the_type kind) → none ≡ struct_field (definition_kind_of file words kind) name
+pub other_than_struct : (file words : List ℕ) (name : Name) (kind : DefinitionKind) → Among (0 ∷ 2 ∷ 3 ∷ 4 ∷ 5 ∷ 6 ∷ []) (tag_of definition_kind.the_type kind) → None ≡ struct_field (definition_kind_of file words kind) name
 unfolding struct_field
 other_than_struct file words name (DefinitionKind.Function t l) h = refl
 other_than_struct file words name (DefinitionKind.Struct l) h = absurd (miss (0 ∷ 2 ∷ 3 ∷ 4 ∷ 5 ∷ 6 ∷ []) 1 tt (opened h))

@@ -1,5 +1,5 @@
 -- What an answer line is about, as the code holds it. Definitions only.
-use Rattle.std.proofs.Math.Option.{Option, none, some}
+use Rattle.std.specs.Prelude.{Option, None, Some}
 use Rattle.records.specs.Meaning.{type_link_of}
 use Rattle.resolution.specs.Asked as resolution
 use Rattle.views.specs.declared.Asked.{Asked}
@@ -13,5 +13,5 @@ asked_of (Asked.At m position) = resolution.Asked.at m position
 
 -- what a question asks at a number
 abbrev pub found_asked_of : FoundAsked → Option resolution.Asked
-found_asked_of FoundAsked.Past = none
-found_asked_of (FoundAsked.Found asked) = some (asked_of asked)
+found_asked_of FoundAsked.Past = None
+found_asked_of (FoundAsked.Found asked) = Some (asked_of asked)

@@ -3,7 +3,7 @@
 #![tactic(auto)]
 
 ghost use Rattle.std.specs.Prelude.{◌≡◌, ℕ, List};
-ghost use Rattle.std.proofs.Math.ListN.{get_elem?};
+ghost use Rattle.std.specs.Prelude.{slice_get};
 ghost use Rattle.model.specs.Records.{Index};
 ghost use Rattle.resolution.specs.Asked.{question_asked};
 ghost use Rattle.resolution.specs.Types.{field_type};
@@ -58,7 +58,7 @@ pub enum FoundImport {
 
 // What a question asks at a number: each asks one thing, and has one line.
 pub fn asked_at(question: Question, line: u32) -> FoundAsked
-    ensures { (index : Index) → found_asked_of result ≡ get_elem? (question_asked index (question_of question)) line }
+    ensures { (index : Index) → found_asked_of result ≡ slice_get (question_asked index (question_of question)) line }
 {
     if line > 0 {
         return FoundAsked::Past;

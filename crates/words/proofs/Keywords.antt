@@ -3,10 +3,11 @@ use Prim.Native.Nat.{ℕ, zero, suc, ◌≤◌, ◌<◌}
 use mathlib.Core.Path.{◌≡◌, refl, sym, ap, ◌∙◌}
 use mathlib.Core.List.{List, [], ◌∷◌}
 use mathlib.Core.Bool.{Bool, true, false}
-use mathlib.Core.Option.{none, some}
+use Rattle.std.specs.Prelude.{None, Some}
 use native.Mathlib.Omega.{arith}
 use native.Mathlib.Nat.{not-suc-le-zero, le_of_suc-le-suc}
-use lib.ListN.{length, take, get_elem?, length-take}
+use Rattle.std.specs.Prelude.{slice_get}
+use lib.ListN.{length, take, length-take}
 use Rattle.format.specs.Load.{first_lines, first_line_length, version_of}
 use Rattle.std.specs.Prelude.{if◌then◌else◌}
 use Rattle.model.specs.Common.{Text, bytes, let_some, first, eq_numbers}
@@ -32,7 +33,7 @@ module _ {A : Type 0} (words : List (Keyword A)) (other : A) (table map field : 
 pub word_key : {A : Type 0} (table : List (Keyword A)) (other : A) (k n : ℕ) → k ≡ n → word_at table other n ≡ word_at table other k
 word_key table other k n e = ap (λ m. word_at table other m) (sym e)
 
-getElem_none : {A : Type 0} (xs : List A) (n : ℕ) → length xs ≤ n → get_elem? xs n ≡ none
+getElem_none : {A : Type 0} (xs : List A) (n : ℕ) → length xs ≤ n → slice_get xs n ≡ None
 getElem_none [] n h = refl
 getElem_none (x ∷ xs) zero h = absurd (not-suc-le-zero h)
 getElem_none (x ∷ xs) (suc n) h = getElem_none xs n (le_of_suc-le-suc h)
@@ -58,7 +59,7 @@ none_below (suc n) k h = above n k (none_below n k h.0) h.1
 abbrev pub begin : Text → Text
 begin file = take first_line_length file
 
-pub version_short : (file : Text) → length file < 8 → none ≡ version_of file
+pub version_short : (file : Text) → length file < 8 → None ≡ version_of file
 unfolding version_of place_in first is_keyword
 version_short file h = rw (other_length (begin file) (bytes "index\t1\n") differs)
   where
@@ -66,7 +67,7 @@ version_short file h = rw (other_length (begin file) (bytes "index\t1\n") differ
     differs e = omega (arith, length-take 8 file, e)
 
 -- there is one first line
-pub version_by : (file : Text) (b : Bool) → b ≡ eq_numbers (begin file) (bytes "index\t1\n") → (if b then some 1 else none) ≡ version_of file
+pub version_by : (file : Text) (b : Bool) → b ≡ eq_numbers (begin file) (bytes "index\t1\n") → (if b then Some 1 else None) ≡ version_of file
 unfolding version_of place_in first is_keyword word_at
-version_by file true e = ap (λ b. let_some (if b then some 0 else none) none λ n. some (word_at first_lines 0 n)) e
-version_by file false e = ap (λ b. let_some (if b then some 0 else none) none λ n. some (word_at first_lines 0 n)) e
+version_by file true e = ap (λ b. let_some (if b then Some 0 else None) None λ n. Some (word_at first_lines 0 n)) e
+version_by file false e = ap (λ b. let_some (if b then Some 0 else None) None λ n. Some (word_at first_lines 0 n)) e

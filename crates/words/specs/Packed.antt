@@ -1,6 +1,6 @@
 -- A table of words as one byte string, and the one word of it that a field can be. Assumes nothing.
 use Rattle.std.specs.Prelude.{ℕ, ◌+◌, ◌-◌, ◌*◌, ◌/◌, ◌%◌, [], ◌∷◌, leb, length, take, drop, get_or}
-use Rattle.std.proofs.Math.Option.{Option, none, some}
+use Rattle.std.specs.Prelude.{Option, None, Some}
 use Rattle.std.specs.Prelude.{if◌then◌else◌}
 use Rattle.model.specs.Common.{Text, let_some, eq_numbers}
 use Rattle.words.specs.declared.Found.{Found}
@@ -8,8 +8,8 @@ use Rattle.words.specs.declared.Version.{Version}
 
 -- the word that stands behind its length; none where the bytes end before it does
 abbrev pub word_behind : Text → Option Text
-word_behind [] = none
-word_behind (n ∷ t) = if leb n (length t) then some (take n t) else none
+word_behind [] = None
+word_behind (n ∷ t) = if leb n (length t) then Some (take n t) else None
 
 -- the word at a place: a table has nine bytes for each
 abbrev pub cell_word : Text → ℕ → Option Text
@@ -25,16 +25,16 @@ candidate map field = get_or map (hash_of field) 0
 
 -- the place k, if the word there is the field
 abbrev pub place_if : Text → ℕ → Option Text → Option ℕ
-place_if field k word = let_some word none λ w. if eq_numbers field w then some k else none
+place_if field k word = let_some word None λ w. if eq_numbers field w then Some k else None
 
 -- the place of the word that the field is, if the map is right for the table: that of the one word that it can be, if it is that word
 unfoldable pub candidate_place : Text → Text → Text → Option ℕ
 candidate_place table map field = place_if field (candidate map field) (cell_word table (candidate map field))
 
 abbrev pub found_is : Found → Option ℕ
-found_is (Found.At k) = some k
-found_is Found.Nothing = none
+found_is (Found.At k) = Some k
+found_is Found.Nothing = None
 
 abbrev pub version_is : Version → Option ℕ
-version_is (Version.Is n) = some n
-version_is Version.Missing = none
+version_is (Version.Is n) = Some n
+version_is Version.Missing = None

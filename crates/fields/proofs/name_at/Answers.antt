@@ -1,7 +1,7 @@
 -- `fields::name_at` meets its contract. Assumes nothing.
 use Prim.Native.Nat.{◌+◌, ◌-◌}
 use mathlib.Core.Path.{◌≡◌, sym, ap, ◌∙◌}
-use mathlib.Core.Option.{some}
+use Rattle.std.specs.Prelude.{Some}
 use lib.ListN.{length, drop}
 use Rattle.model.specs.Common.{is_empty}
 use Rattle.records.specs.Layout.{bytes_at}
@@ -50,5 +50,5 @@ returns c =
     let q = c.visible_end-e.ensures in
     let ends = is_empty_of s (p + length (visible_run (drop p s))) (ap (λ n. is_empty (field_of (drop n s))) (sym q) ∙ sym c.is_end.ensures ∙ c.if-not-is_end.false) in
     let m : c.visible_end-e.result - p ≡ length (visible_run (drop p s)) = omega (arith, q) in
-    (λ i. some (record { value = text (bytes_at s p (m i)); rest = drop (q i) s }))
+    (λ i. Some (record { value = text (bytes_at s p (m i)); rest = drop (q i) s }))
     ∙ sym (name_is s p ends (sym c.is_dash_at.ensures ∙ c.if-is_dash_at.false) (omega (arith, q)) (omega (arith, q)))

@@ -1,7 +1,8 @@
 -- The proof of the cycle of calls. Assumes nothing.
 use Rattle.type_resolution.proofs.Leading.{elements_more, leads_from, numbers_begin, collecting_begin, all_more, all_stops, all_ends, exactly_all, exactly_none, links_begin, arguments_more, arguments_stop, arguments_done, types_kept, gathering_begin, elements_skip, elements_stop, elements_end, at_most_all, at_most_none, taken_length, links_behind_first, same_absent, same_more, same_differs, same_stops, same_all}
 use mathlib.Core.Path.{refl, ap, ◌∙◌, sym, subst}
-use lib.ListN.{take, length-set, get_elem?}
+use Rattle.std.specs.Prelude.{slice_get}
+use lib.ListN.{take, length-set}
 use Rattle.resolution.specs.TypeResolution.{resolve_all, infer_arguments, array_type, binary_type, call_type, definition_kind_type, infer_elements, empty_array_type, new_type, node_type, parenthesized_type, infer_only, context_from_origin, assignment_context, return_context, array_repeat_type, all_same_type, tuple_type, type_expr_type, unary_type}
 use native.Mathlib.Omega.{arith}
 use Rattle.type_resolution.proofs.Running.{is_typed, is_refused, is_same, is_different, not_compared, answers, refuses, then_on, then_stop, if_true, if_false, some_runs, none_runs, data_runs, entered_ready, entered_stops, entered_runs, enter_falls, look_runs, is_ignored, not_ignored, reads, same_runs, is_known, is_absent, not_linked, is_collected, not_collected, ends, knows, knows_nothing}
@@ -58,7 +59,7 @@ pub args-only-requires : goal.args-only-requires
 args-only-requires t c = (omega (arith, c.decreases), c.loop-i.invariant.1.1.1.ready)
 
 pub args-returns-in-Refused : goal.args-returns-in-Refused
-args-returns-in-Refused t c = arguments_stop _ _ _ _ _ c.loop-i.invariant.1.1.1 _ _ c.loop-i-test.true c.item_link-arg.ensures (c.item-context.ensures ∙ ap (λ l. get_elem? l c.loop-i.i) (types_kept c.loop-i.invariant.1.1.1.grows c.args.params c.requires.count_bound)) c.only.ensures c.in-Refused.is
+args-returns-in-Refused t c = arguments_stop _ _ _ _ _ c.loop-i.invariant.1.1.1 _ _ c.loop-i-test.true c.item_link-arg.ensures (c.item-context.ensures ∙ ap (λ l. slice_get l c.loop-i.i) (types_kept c.loop-i.invariant.1.1.1.grows c.args.params c.requires.count_bound)) c.only.ensures c.in-Refused.is
 
 pub args-overflow_add-i : goal.args-overflow_add-i
 args-overflow_add-i t c = omega (arith, c.loop-i-test.true)
@@ -67,7 +68,7 @@ pub args-loop-i-smaller : goal.args-loop-i-smaller
 args-loop-i-smaller t c = omega (arith, c.loop-i-test.true)
 
 pub args-loop-i-preserved : goal.args-loop-i-preserved
-args-loop-i-preserved t c = (omega (arith, c.loop-i-test.true), (omega (arith, c.types-1.given, c.loop-i.invariant.1.0), (omega (arith, c.demands-1.given, c.loop-i.invariant.1.1.0), arguments_more _ _ _ _ _ c.loop-i.invariant.1.1.1 _ _ c.loop-i-test.true c.item_link-arg.ensures (c.item-context.ensures ∙ ap (λ l. get_elem? l c.loop-i.i) (types_kept c.loop-i.invariant.1.1.1.grows c.args.params c.requires.count_bound)) c.only.ensures c.in-Answered.is)))
+args-loop-i-preserved t c = (omega (arith, c.loop-i-test.true), (omega (arith, c.types-1.given, c.loop-i.invariant.1.0), (omega (arith, c.demands-1.given, c.loop-i.invariant.1.1.0), arguments_more _ _ _ _ _ c.loop-i.invariant.1.1.1 _ _ c.loop-i-test.true c.item_link-arg.ensures (c.item-context.ensures ∙ ap (λ l. slice_get l c.loop-i.i) (types_kept c.loop-i.invariant.1.1.1.grows c.args.params c.requires.count_bound)) c.only.ensures c.in-Answered.is)))
 
 pub args-returns : goal.args-returns
 args-returns t c = arguments_done _ _ _ _ _ c.loop-i.invariant.1.1.1 _ c.loop-i-test.false
@@ -331,7 +332,7 @@ pub elems-expr_type-requires : goal.elems-expr_type-requires
 elems-expr_type-requires t c = (omega (arith, c.decreases), c.loop-i.invariant.1.1.1.1.1.ready)
 
 pub elems-returns-in-Refused : goal.elems-returns-in-Refused
-elems-returns-in-Refused t c = record { runs = elements_stop _ _ _ _ _ c.loop-i.n c.loop-i.out c.loop-i.invariant.1.1.1.1.1 _ c.loop-i-test.true c.item_link-element.ensures c.in-To.is (c.item-context.ensures ∙ ap (λ l. get_elem? l c.loop-i.i) (types_kept c.loop-i.invariant.1.1.1.1.1.grows c.args.contexts c.requires.count_bound)) c.expr_type.ensures _ c.in-Refused.is; at_most = at_most_none _ _ }
+elems-returns-in-Refused t c = record { runs = elements_stop _ _ _ _ _ c.loop-i.n c.loop-i.out c.loop-i.invariant.1.1.1.1.1 _ c.loop-i-test.true c.item_link-element.ensures c.in-To.is (c.item-context.ensures ∙ ap (λ l. slice_get l c.loop-i.i) (types_kept c.loop-i.invariant.1.1.1.1.1.grows c.args.contexts c.requires.count_bound)) c.expr_type.ensures _ c.in-Refused.is; at_most = at_most_none _ _ }
 
 pub elems-offset_bounds-out-n : goal.elems-offset_bounds-out-n
 elems-offset_bounds-out-n t c = omega (arith, c.loop-i-test.true, c.loop-i.invariant.1.0)
@@ -990,7 +991,7 @@ elems-loop-i-preserved t c = (
         (
           omega (arith, c.demands-1.given, c.loop-i.invariant.1.1.1.1.0),
           elements_more _ _ _ _ _ c.loop-i.n c.loop-i.out c.loop-i.invariant.1.1.1.1.1 _ c.loop-i-test.true c.item_link-element.ensures c.in-To.is
-              (c.item-context.ensures ∙ ap (λ l. get_elem? l c.loop-i.i) (types_kept c.loop-i.invariant.1.1.1.1.1.grows c.args.contexts c.requires.count_bound))
+              (c.item-context.ensures ∙ ap (λ l. slice_get l c.loop-i.i) (types_kept c.loop-i.invariant.1.1.1.1.1.grows c.args.contexts c.requires.count_bound))
               c.expr_type.ensures c.in-Answered.is (omega (arith, c.loop-i-test.true, c.loop-i.invariant.1.0, c.loop-i.invariant.1.1.0, c.requires.count_in_bounds)),
         ),
       ),

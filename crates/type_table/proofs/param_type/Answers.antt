@@ -1,7 +1,7 @@
 -- `type_table::param_type` meets its contract. Assumes nothing.
 use mathlib.Core.Path.{ap, ◌∙◌}
-use mathlib.Core.Option.{none}
-use lib.ListN.{get_elem?}
+use Rattle.std.specs.Prelude.{None}
+use Rattle.std.specs.Prelude.{slice_get}
 use Rattle.type_table.specs.Meaning.{found_signature_of}
 use Rattle.type_table.specs.Reads.{param_read}
 use Rattle.type_table.proofs.Reading.{some_read, none_read}
@@ -10,11 +10,11 @@ use Rattle.type_table.proofs.param_type.Goals as goal
 pub returns-in_default : goal.returns-in_default
 unfolding param_read
 returns-in_default c =
-    λ file. record { same = none_read none (λ signature. get_elem? signature.params c.args.i) (c.signature_of.ensures.same file) (ap (found_signature_of c.args.types.now) c.in_default.is) }
+    λ file. record { same = none_read None (λ signature. slice_get signature.params c.args.i) (c.signature_of.ensures.same file) (ap (found_signature_of c.args.types.now) c.in_default.is) }
 
 pub returns : goal.returns
 unfolding param_read
 returns c =
     λ file. record {
-      same = c.item.ensures ∙ some_read none (λ signature. get_elem? signature.params c.args.i) (c.signature_of.ensures.same file) (ap (found_signature_of c.args.types.now) c.in-Found.is);
+      same = c.item.ensures ∙ some_read None (λ signature. slice_get signature.params c.args.i) (c.signature_of.ensures.same file) (ap (found_signature_of c.args.types.now) c.in-Found.is);
     }

@@ -1,6 +1,6 @@
 -- `type_table::tuple_element` meets its contract. Assumes nothing.
 use mathlib.Core.Path.{ap, ◌∙◌}
-use lib.ListN.{get_elem?}
+use Rattle.std.specs.Prelude.{slice_get}
 use Rattle.model.specs.Common.{let_some}
 use Rattle.type_table.specs.Meaning.{found_types_of, found_type_of}
 use Rattle.type_table.specs.Reads.{tuple_element_read}
@@ -10,7 +10,7 @@ use Rattle.type_table.proofs.tuple_element.Goals as goal
 pub returns-in_default : goal.returns-in_default
 unfolding tuple_element_read
 returns-in_default c =
-    λ file. record { same = none_read 4 (λ elements. let_some (get_elem? elements c.args.i) 4 (λ u. u)) (c.tuple_of.ensures.same file) (ap (found_types_of c.args.types.now) c.in_default.is) }
+    λ file. record { same = none_read 4 (λ elements. let_some (slice_get elements c.args.i) 4 (λ u. u)) (c.tuple_of.ensures.same file) (ap (found_types_of c.args.types.now) c.in_default.is) }
 
 pub returns-in_default-item : goal.returns-in_default-item
 unfolding tuple_element_read
@@ -18,7 +18,7 @@ returns-in_default-item c =
     λ file. record {
       same =
           none_read 4 (λ u. u) c.item.ensures (ap found_type_of c.in_default-item.is)
-          ∙ some_read 4 (λ elements. let_some (get_elem? elements c.args.i) 4 (λ u. u)) (c.tuple_of.ensures.same file) (ap (found_types_of c.args.types.now) c.in-Found.is);
+          ∙ some_read 4 (λ elements. let_some (slice_get elements c.args.i) 4 (λ u. u)) (c.tuple_of.ensures.same file) (ap (found_types_of c.args.types.now) c.in-Found.is);
     }
 
 pub returns : goal.returns
@@ -27,5 +27,5 @@ returns c =
     λ file. record {
       same =
           some_read 4 (λ u. u) c.item.ensures (ap found_type_of c.in-Found-item.is)
-          ∙ some_read 4 (λ elements. let_some (get_elem? elements c.args.i) 4 (λ u. u)) (c.tuple_of.ensures.same file) (ap (found_types_of c.args.types.now) c.in-Found.is);
+          ∙ some_read 4 (λ elements. let_some (slice_get elements c.args.i) 4 (λ u. u)) (c.tuple_of.ensures.same file) (ap (found_types_of c.args.types.now) c.in-Found.is);
     }
