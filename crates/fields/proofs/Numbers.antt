@@ -29,12 +29,12 @@ digit_high b h k = rw (le-leb 48 b h, lt-leb b 57 k)
 -- a number never falls as its digits are read
 grows : (n m : ℕ) (t : List ℕ) → digits n t ≡ Some m → n ≤ m
 unfolding digits
-grows n m [] q = omega (arith, some-injective n m q)
+grows n m [] q = omega (arith, some-injective q)
 grows n m (b ∷ t) q = by (λ h. grows (n * 10 + (b - 48)) m t h) (is_digit b) refl
   where
     by : (digits (n * 10 + (b - 48)) t ≡ Some m → n * 10 + (b - 48) ≤ m) → (d : Bool) → is_digit b ≡ d → n ≤ m
     by g true e = omega (arith, g (rw (e, digits) at q))
-    by g false e = absurd (none≢some {x = m} (rw (e, digits) at q))
+    by g false e = absurd (none≢some (rw (e, digits) at q))
 
 over : (n most : ℕ) (t : List ℕ) → most < n → (let_some (digits n t) None λ m. only_if (leb m most) m) ≡ None
 over n most t h = by (digits n t) refl
