@@ -1,15 +1,12 @@
 -- What the values of the code mean in the model: names are parts of the file, lists are ranges of the item rows. Definitions only.
-use Rattle.std.specs.Prelude.{ℕ, List}
-use Rattle.std.specs.Prelude.{Option, None, Some}
+use Rattle.std.specs.Prelude.{ℕ, List, Option, option_map}
 use Rattle.model.specs.Records as model
 use Rattle.records.specs.Layout.{bytes_at, numbers_at, links_at, names_with_types_at}
+use Rattle.records.specs.declared.FileScopeId.{FileScopeId}
+use Rattle.records.specs.declared.DefinitionIndex.{DefinitionIndex}
+use Rattle.records.specs.declared.ExpressionId.{ExpressionId}
 use Rattle.records.specs.declared.Name.{Name}
 use Rattle.records.specs.declared.Items.{Items}
-use Rattle.records.specs.declared.ScopeLink.{ScopeLink}
-use Rattle.records.specs.declared.TypeLink.{TypeLink}
-use Rattle.records.specs.declared.DefinitionLink.{DefinitionLink}
-use Rattle.records.specs.declared.ExpressionLink.{ExpressionLink}
-use Rattle.records.specs.declared.Suffix.{Suffix}
 use Rattle.records.specs.declared.ScopeKind.{ScopeKind}
 use Rattle.records.specs.declared.Scope.{Scope}
 use Rattle.records.specs.declared.TypeExpr.{TypeExpr}
@@ -21,14 +18,6 @@ use Rattle.records.specs.declared.BinaryOp.{BinaryOp}
 use Rattle.records.specs.declared.Expression.{Expression}
 use Rattle.records.specs.declared.ExpressionInfo.{ExpressionInfo}
 use Rattle.records.specs.declared.Question.{Question}
-use Rattle.records.specs.declared.FoundScope.{FoundScope}
-use Rattle.records.specs.declared.FoundTypeExpr.{FoundTypeExpr}
-use Rattle.records.specs.declared.FoundDefinition.{FoundDefinition}
-use Rattle.records.specs.declared.FoundExpression.{FoundExpression}
-use Rattle.records.specs.declared.FoundQuestion.{FoundQuestion}
-use Rattle.records.specs.declared.NumberItem.{NumberItem}
-use Rattle.records.specs.declared.LinkItem.{LinkItem}
-use Rattle.records.specs.declared.NameWithTypeItem.{NameWithTypeItem}
 
 abbrev pub name_of : List ℕ → Name → model.Name
 name_of file n = bytes_at file n.start n.length
@@ -42,25 +31,20 @@ links_of words l = links_at words l.first l.count
 abbrev pub names_with_types_of : List ℕ → List ℕ → Items → List model.NameWithType
 names_with_types_of file words l = names_with_types_at file words l.first l.count
 
-abbrev pub scope_link_of : ScopeLink → Option ℕ
-scope_link_of ScopeLink.Absent = None
-scope_link_of (ScopeLink.To s) = Some s.0
+abbrev pub scope_link_of : Option FileScopeId → Option ℕ
+scope_link_of = option_map (λ s. s.0)
 
-abbrev pub type_link_of : TypeLink → Option ℕ
-type_link_of TypeLink.Absent = None
-type_link_of (TypeLink.To t) = Some t
+abbrev pub type_link_of : Option ℕ → Option ℕ
+type_link_of = option_map (λ t. t)
 
-abbrev pub definition_link_of : DefinitionLink → Option ℕ
-definition_link_of DefinitionLink.Absent = None
-definition_link_of (DefinitionLink.To d) = Some d.0
+abbrev pub definition_link_of : Option DefinitionIndex → Option ℕ
+definition_link_of = option_map (λ d. d.0)
 
-abbrev pub expression_link_of : ExpressionLink → Option ℕ
-expression_link_of ExpressionLink.Absent = None
-expression_link_of (ExpressionLink.To e) = Some e.0
+abbrev pub expression_link_of : Option ExpressionId → Option ℕ
+expression_link_of = option_map (λ e. e.0)
 
-abbrev pub suffix_of : List ℕ → Suffix → Option model.Name
-suffix_of file Suffix.Absent = None
-suffix_of file (Suffix.Named n) = Some (name_of file n)
+abbrev pub suffix_of : List ℕ → Option Name → Option model.Name
+suffix_of file = option_map (name_of file)
 
 -- ------------------------------------------------------------------ records
 
@@ -73,9 +57,8 @@ scope_kind_of ScopeKind.Loop = model.ScopeKind.LoopScope
 abbrev pub scope_of : Scope → model.Scope
 scope_of s = record { parent = scope_link_of s.parent; kind = scope_kind_of s.kind }
 
-abbrev pub found_scope_of : FoundScope → Option model.Scope
-found_scope_of FoundScope.Absent = None
-found_scope_of (FoundScope.Found s) = Some (scope_of s)
+abbrev pub found_scope_of : Option Scope → Option model.Scope
+found_scope_of = option_map scope_of
 
 abbrev pub type_expr_of : List ℕ → List ℕ → TypeExpr → model.TypeExpr
 type_expr_of file words TypeExpr.Felt = model.TypeExpr.Felt
@@ -86,9 +69,8 @@ type_expr_of file words (TypeExpr.Pointer t) = model.TypeExpr.Pointer t
 type_expr_of file words (TypeExpr.Tuple l) = model.TypeExpr.Tuple (numbers_of words l)
 type_expr_of file words (TypeExpr.FixedArray t size) = model.TypeExpr.FixedArray t size
 
-abbrev pub found_type_expr_of : List ℕ → List ℕ → FoundTypeExpr → Option model.TypeExpr
-found_type_expr_of file words FoundTypeExpr.Absent = None
-found_type_expr_of file words (FoundTypeExpr.Found t) = Some (type_expr_of file words t)
+abbrev pub found_type_expr_of : List ℕ → List ℕ → Option TypeExpr → Option model.TypeExpr
+found_type_expr_of file words = option_map (type_expr_of file words)
 
 abbrev pub definition_kind_of : List ℕ → List ℕ → DefinitionKind → model.DefinitionKind
 definition_kind_of file words (DefinitionKind.Function t l) = model.DefinitionKind.Function t (names_with_types_of file words l)
@@ -112,9 +94,8 @@ definition_of file words d =
       kind = definition_kind_of file words d.kind;
     }
 
-abbrev pub found_definition_of : List ℕ → List ℕ → FoundDefinition → Option model.Definition
-found_definition_of file words FoundDefinition.Absent = None
-found_definition_of file words (FoundDefinition.Found d) = Some (definition_of file words d)
+abbrev pub found_definition_of : List ℕ → List ℕ → Option Definition → Option model.Definition
+found_definition_of file words = option_map (definition_of file words)
 
 abbrev pub origin_of : List ℕ → Origin → model.Origin
 origin_of file Origin.Plain = model.Origin.Plain
@@ -177,9 +158,8 @@ info_of file words e =
       node = expression_of file words e.node;
     }
 
-abbrev pub found_expression_of : List ℕ → List ℕ → FoundExpression → Option model.ExpressionInfo
-found_expression_of file words FoundExpression.Absent = None
-found_expression_of file words (FoundExpression.Found e) = Some (info_of file words e)
+abbrev pub found_expression_of : List ℕ → List ℕ → Option ExpressionInfo → Option model.ExpressionInfo
+found_expression_of file words = option_map (info_of file words)
 
 abbrev pub question_of : Question → model.Question
 question_of (Question.Expr m e t) = model.Question.expr m e.0 (type_link_of t)
@@ -187,20 +167,13 @@ question_of (Question.Def m d) = model.Question.def m d.0
 question_of (Question.«Type» m t s) = model.Question.type m t s.0
 question_of (Question.At m position) = model.Question.at m position
 
-abbrev pub found_question_of : FoundQuestion → Option model.Question
-found_question_of FoundQuestion.Absent = None
-found_question_of (FoundQuestion.Found q) = Some (question_of q)
+abbrev pub found_question_of : Option Question → Option model.Question
+found_question_of = option_map question_of
 
 -- ------------------------------------------------------------------ items
 
-abbrev pub number_item_of : NumberItem → Option ℕ
-number_item_of NumberItem.Absent = None
-number_item_of (NumberItem.Found n) = Some n
+abbrev pub link_item_of : Option (Option ExpressionId) → Option (Option ℕ)
+link_item_of = option_map expression_link_of
 
-abbrev pub link_item_of : LinkItem → Option (Option ℕ)
-link_item_of LinkItem.Absent = None
-link_item_of (LinkItem.Found l) = Some (expression_link_of l)
-
-abbrev pub name_with_type_item_of : List ℕ → NameWithTypeItem → Option model.NameWithType
-name_with_type_item_of file NameWithTypeItem.Absent = None
-name_with_type_item_of file (NameWithTypeItem.Found n t) = Some (record { name = name_of file n; type = t })
+abbrev pub name_with_type_item_of : List ℕ → Option (Name × ℕ) → Option model.NameWithType
+name_with_type_item_of file = option_map (λ item. record { name = name_of file item.0; type = item.1 })

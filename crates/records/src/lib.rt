@@ -1,10 +1,7 @@
 // The records of a loaded index, read from the record words. Any words hold some index: see specs/Layout.antt.
 #![tactic(auto)]
 
-ghost use Rattle.std.specs.Prelude.{◌≡◌, ℕ, ◌+◌, List, length};
-ghost use Rattle.std.specs.Prelude.{None, Some};
-ghost use Rattle.std.specs.Prelude.{slice_get};
-ghost use Rattle.std.specs.Prelude.{if◌then◌else◌};
+ghost use Rattle.std.specs.Prelude.{◌≡◌, ℕ, ◌+◌, List, None, Some, if◌then◌else◌, length, option_map, slice_get};
 ghost use Rattle.model.specs.Lookups.{module_at, scope_at, type_expr_at, definition_at, expression_at};
 ghost use Rattle.records.specs.Layout.{word, link_by, name_by, suffix_by, size_by, item_value, item_name};
 ghost use Rattle.records.specs.Layout.{scope_kind_by, type_expr_by, definition_kind_by, origin_by, unary_op_by};
@@ -18,7 +15,7 @@ ghost use Rattle.records.specs.Meaning.{scope_kind_of, scope_of, type_expr_of, d
 ghost use Rattle.records.specs.Meaning.{origin_of, unary_op_of, binary_op_of, expression_of, info_of};
 ghost use Rattle.records.specs.Meaning.{question_of};
 ghost use Rattle.records.specs.Meaning.{found_scope_of, found_type_expr_of, found_definition_of};
-ghost use Rattle.records.specs.Meaning.{found_expression_of, found_question_of, number_item_of, link_item_of};
+ghost use Rattle.records.specs.Meaning.{found_expression_of, found_question_of, link_item_of};
 ghost use Rattle.records.specs.Meaning.{name_with_type_item_of};
 
 // The three index types of the Rust. Each is the record's number within its module.
@@ -30,6 +27,65 @@ pub struct DefinitionIndex(pub u32);
 
 #[derive(Clone, Copy)]
 pub struct ExpressionId(pub u32);
+
+// A record's number within its module: one of the three, or a bare number, as a T has.
+pub trait RecordNumber: Copy {
+    ghost number: { Self → ℕ };
+
+    fn of(n: u32) -> Self
+        ensures { number result ≡ n };
+
+    fn get(self) -> u32
+        ensures { result ≡ number self };
+}
+
+impl RecordNumber for u32 {
+    ghost number = { λ n. n };
+
+    fn of(n: u32) -> u32 {
+        n
+    }
+
+    fn get(self) -> u32 {
+        self
+    }
+}
+
+impl RecordNumber for FileScopeId {
+    ghost number = { λ s. s.0 };
+
+    fn of(n: u32) -> FileScopeId {
+        FileScopeId(n)
+    }
+
+    fn get(self) -> u32 {
+        self.0
+    }
+}
+
+impl RecordNumber for DefinitionIndex {
+    ghost number = { λ d. d.0 };
+
+    fn of(n: u32) -> DefinitionIndex {
+        DefinitionIndex(n)
+    }
+
+    fn get(self) -> u32 {
+        self.0
+    }
+}
+
+impl RecordNumber for ExpressionId {
+    ghost number = { λ e. e.0 };
+
+    fn of(n: u32) -> ExpressionId {
+        ExpressionId(n)
+    }
+
+    fn get(self) -> u32 {
+        self.0
+    }
+}
 
 // A name is a part of the file.
 #[derive(Clone, Copy)]
@@ -45,38 +101,6 @@ pub struct Items {
     pub count: u32,
 }
 
-// Links that may be absent.
-#[derive(Clone, Copy)]
-pub enum ScopeLink {
-    Absent,
-    To(FileScopeId),
-}
-
-#[derive(Clone, Copy)]
-pub enum TypeLink {
-    Absent,
-    To(u32),
-}
-
-#[derive(Clone, Copy)]
-pub enum DefinitionLink {
-    Absent,
-    To(DefinitionIndex),
-}
-
-#[derive(Clone, Copy)]
-pub enum ExpressionLink {
-    Absent,
-    To(ExpressionId),
-}
-
-// The suffix of a literal.
-#[derive(Clone, Copy)]
-pub enum Suffix {
-    Absent,
-    Named(Name),
-}
-
 // A scope, with the names of place.rs.
 #[derive(Clone, Copy)]
 pub enum ScopeKind {
@@ -88,7 +112,7 @@ pub enum ScopeKind {
 
 #[derive(Clone, Copy)]
 pub struct Scope {
-    pub parent: ScopeLink,
+    pub parent: Option<FileScopeId>,
     pub kind: ScopeKind,
 }
 
@@ -109,8 +133,8 @@ pub enum TypeExpr {
 pub enum DefinitionKind {
     Function(u32, Items),
     Struct(Items),
-    Const(TypeLink, ExpressionLink),
-    Let(TypeLink, ExpressionLink, ExpressionLink, Items),
+    Const(Option<u32>, Option<ExpressionId>),
+    Let(Option<u32>, Option<ExpressionId>, Option<ExpressionId>, Items),
     Parameter(u32),
     Use(Name, Name),
     LoopVariable,
@@ -166,22 +190,22 @@ pub enum BinaryOp {
 
 #[derive(Clone, Copy)]
 pub enum Expression {
-    Literal(Suffix),
+    Literal(Option<Name>),
     BooleanLiteral,
     Identifier(Name),
-    Unary(UnaryOp, ExpressionLink),
-    Binary(BinaryOp, ExpressionLink, ExpressionLink),
-    FunctionCall(ExpressionLink, Items),
-    MemberAccess(ExpressionLink, Name),
-    IndexAccess(ExpressionLink, ExpressionLink),
+    Unary(UnaryOp, Option<ExpressionId>),
+    Binary(BinaryOp, Option<ExpressionId>, Option<ExpressionId>),
+    FunctionCall(Option<ExpressionId>, Items),
+    MemberAccess(Option<ExpressionId>, Name),
+    IndexAccess(Option<ExpressionId>, Option<ExpressionId>),
     StructLiteral(Name, u32, u32),
     Tuple(Items),
-    TupleIndex(ExpressionLink, u32),
+    TupleIndex(Option<ExpressionId>, u32),
     ArrayLiteral(Items),
-    ArrayRepeat(ExpressionLink, u64),
+    ArrayRepeat(Option<ExpressionId>, u64),
     Cast(u32),
-    New(u32, ExpressionLink),
-    Parenthesized(ExpressionLink),
+    New(u32, Option<ExpressionId>),
+    Parenthesized(Option<ExpressionId>),
 }
 
 #[derive(Clone, Copy)]
@@ -189,8 +213,8 @@ pub struct ExpressionInfo {
     pub scope: FileScopeId,
     pub start: u32,
     pub end: u32,
-    pub expected: TypeLink,
-    pub definition: DefinitionLink,
+    pub expected: Option<u32>,
+    pub definition: Option<DefinitionIndex>,
     pub origin: Origin,
     pub node: Expression,
 }
@@ -198,60 +222,10 @@ pub struct ExpressionInfo {
 // A question names its module, and then its record and its context or scope, or a position.
 #[derive(Clone, Copy)]
 pub enum Question {
-    Expr(u32, ExpressionId, TypeLink),
+    Expr(u32, ExpressionId, Option<u32>),
     Def(u32, DefinitionIndex),
     Type(u32, u32, FileScopeId),
     At(u32, u32),
-}
-
-// A record by number, or none where there is no such record.
-#[derive(Clone, Copy)]
-pub enum FoundScope {
-    Absent,
-    Found(Scope),
-}
-
-#[derive(Clone, Copy)]
-pub enum FoundTypeExpr {
-    Absent,
-    Found(TypeExpr),
-}
-
-#[derive(Clone, Copy)]
-pub enum FoundDefinition {
-    Absent,
-    Found(Definition),
-}
-
-#[derive(Clone, Copy)]
-pub enum FoundExpression {
-    Absent,
-    Found(ExpressionInfo),
-}
-
-#[derive(Clone, Copy)]
-pub enum FoundQuestion {
-    Absent,
-    Found(Question),
-}
-
-// An item of a list by place, or none past its end.
-#[derive(Clone, Copy)]
-pub enum NumberItem {
-    Absent,
-    Found(u32),
-}
-
-#[derive(Clone, Copy)]
-pub enum LinkItem {
-    Absent,
-    Found(ExpressionLink),
-}
-
-#[derive(Clone, Copy)]
-pub enum NameWithTypeItem {
-    Absent,
-    Found(Name, u32),
 }
 
 // A module's rows of one kind: where they begin, and how many there are.
@@ -347,55 +321,17 @@ pub fn items_of(v: u32) -> Items
 }
 
 // A link that may be absent: its word is 0, or the number and 1.
-pub fn scope_link(v: u32) -> ScopeLink
-    ensures { scope_link_of result ≡ link_by v }
+pub fn link<R: RecordNumber>(v: u32) -> Option<R>
+    ensures { option_map R.number result ≡ link_by v }
 {
-    if v == 0 {
-        ScopeLink::Absent
-    } else {
-        ScopeLink::To(FileScopeId(v - 1))
-    }
-}
-
-pub fn type_link(v: u32) -> TypeLink
-    ensures { type_link_of result ≡ link_by v }
-{
-    if v == 0 {
-        TypeLink::Absent
-    } else {
-        TypeLink::To(v - 1)
-    }
-}
-
-pub fn definition_link(v: u32) -> DefinitionLink
-    ensures { definition_link_of result ≡ link_by v }
-{
-    if v == 0 {
-        DefinitionLink::Absent
-    } else {
-        DefinitionLink::To(DefinitionIndex(v - 1))
-    }
-}
-
-pub fn expression_link(v: u32) -> ExpressionLink
-    ensures { expression_link_of result ≡ link_by v }
-{
-    if v == 0 {
-        ExpressionLink::Absent
-    } else {
-        ExpressionLink::To(ExpressionId(v - 1))
-    }
+    if v == 0 { None } else { Some(R::of(v - 1)) }
 }
 
 // The suffix that a word holds, or none.
-pub fn suffix_of(v: u32) -> Suffix
+pub fn suffix_of(v: u32) -> Option<Name>
     ensures { (file : List ℕ) → suffix_of file result ≡ suffix_by file v }
 {
-    if v == 0 {
-        Suffix::Absent
-    } else {
-        Suffix::Named(name_of(v))
-    }
+    if v == 0 { None } else { Some(name_of(v)) }
 }
 
 // ------------------------------------------------------------------ rows
@@ -435,21 +371,21 @@ pub fn scope_row(words: &[u32], first: u32, i: u32) -> Scope
     ensures { scope_of result ≡ scope_row words.now (first + i) }
 {
     let at = SCOPES + 2 * ((first as usize) + (i as usize));
-    let parent = scope_link(word_at(words, at));
+    let parent = link(word_at(words, at));
     let kind = scope_kind(word_at(words, at + 1));
     Scope { parent, kind }
 }
 
 // A scope of a module, by its number there.
-pub fn scope_at(words: &[u32], m: u32, s: FileScopeId) -> FoundScope
+pub fn scope_at(words: &[u32], m: u32, s: FileScopeId) -> Option<Scope>
     ensures { (file : List ℕ) → found_scope_of result ≡ scope_at (module_row file words.now m) s.0 }
 {
     let rows = rows_of(words, m, SCOPE_ROWS);
     let i = s.0;
     if i < rows.count {
-        FoundScope::Found(scope_row(words, rows.first, i))
+        Some(scope_row(words, rows.first, i))
     } else {
-        FoundScope::Absent
+        None
     }
 }
 
@@ -498,15 +434,15 @@ pub fn type_expr_row(words: &[u32], first: u32, i: u32) -> TypeExpr
 }
 
 // A type expression of a module, by its number there.
-pub fn type_expr_at(words: &[u32], m: u32, t: u32) -> FoundTypeExpr
+pub fn type_expr_at(words: &[u32], m: u32, t: u32) -> Option<TypeExpr>
     ensures { (file : List ℕ) → found_type_expr_of file words.now result
         ≡ type_expr_at (module_row file words.now m) t }
 {
     let rows = rows_of(words, m, TYPE_EXPR_ROWS);
     if t < rows.count {
-        FoundTypeExpr::Found(type_expr_row(words, rows.first, t))
+        Some(type_expr_row(words, rows.first, t))
     } else {
-        FoundTypeExpr::Absent
+        None
     }
 }
 
@@ -528,13 +464,8 @@ fn definition_kind(kind: u32, a: u32, b: u32, c: u32, d: u32) -> DefinitionKind
     match kind {
         0 => DefinitionKind::Function(a, items_of(d)),
         1 => DefinitionKind::Struct(items_of(d)),
-        2 => DefinitionKind::Const(type_link(a), expression_link(b)),
-        3 => DefinitionKind::Let(
-            type_link(a),
-            expression_link(b),
-            expression_link(c),
-            items_of(d),
-        ),
+        2 => DefinitionKind::Const(link(a), link(b)),
+        3 => DefinitionKind::Let(link(a), link(b), link(c), items_of(d)),
         4 => DefinitionKind::Parameter(a),
         5 => DefinitionKind::Use(name_of(a), name_of(b)),
         _ => DefinitionKind::LoopVariable,
@@ -590,16 +521,16 @@ pub fn definition_name(words: &[u32], first: u32, i: u32) -> Name
 }
 
 // A definition of a module, by its number there.
-pub fn definition_at(words: &[u32], m: u32, d: DefinitionIndex) -> FoundDefinition
+pub fn definition_at(words: &[u32], m: u32, d: DefinitionIndex) -> Option<Definition>
     ensures { (file : List ℕ) → found_definition_of file words.now result
         ≡ definition_at (module_row file words.now m) d.0 }
 {
     let rows = rows_of(words, m, DEFINITION_ROWS);
     let i = d.0;
     if i < rows.count {
-        FoundDefinition::Found(definition_row(words, rows.first, i))
+        Some(definition_row(words, rows.first, i))
     } else {
-        FoundDefinition::Absent
+        None
     }
 }
 
@@ -653,19 +584,19 @@ fn expression_of(kind: u32, a: u32, b: u32, c: u32) -> Expression
         0 => Expression::Literal(suffix_of(a)),
         1 => Expression::BooleanLiteral,
         2 => Expression::Identifier(name_of(a)),
-        3 => Expression::Unary(unary_op(a), expression_link(b)),
-        4 => Expression::Binary(binary_op(a), expression_link(b), expression_link(c)),
-        5 => Expression::FunctionCall(expression_link(a), items_of(c)),
-        6 => Expression::MemberAccess(expression_link(a), name_of(b)),
-        7 => Expression::IndexAccess(expression_link(a), expression_link(b)),
+        3 => Expression::Unary(unary_op(a), link(b)),
+        4 => Expression::Binary(binary_op(a), link(b), link(c)),
+        5 => Expression::FunctionCall(link(a), items_of(c)),
+        6 => Expression::MemberAccess(link(a), name_of(b)),
+        7 => Expression::IndexAccess(link(a), link(b)),
         8 => Expression::StructLiteral(name_of(a), b, c),
         9 => Expression::Tuple(items_of(c)),
-        10 => Expression::TupleIndex(expression_link(a), b),
+        10 => Expression::TupleIndex(link(a), b),
         11 => Expression::ArrayLiteral(items_of(c)),
-        12 => Expression::ArrayRepeat(expression_link(a), size_of(b, c)),
+        12 => Expression::ArrayRepeat(link(a), size_of(b, c)),
         13 => Expression::Cast(a),
-        14 => Expression::New(a, expression_link(b)),
-        _ => Expression::Parenthesized(expression_link(a)),
+        14 => Expression::New(a, link(b)),
+        _ => Expression::Parenthesized(link(a)),
     }
 }
 
@@ -678,8 +609,8 @@ pub fn expression_row(words: &[u32], first: u32, i: u32) -> ExpressionInfo
     let scope = word_at(words, at + 1);
     let start = word_at(words, at + 2);
     let end = word_at(words, at + 3);
-    let expected = type_link(word_at(words, at + 4));
-    let definition = definition_link(word_at(words, at + 5));
+    let expected = link(word_at(words, at + 4));
+    let definition = link(word_at(words, at + 5));
     let link = word_at(words, at + 6);
     let value = word_at(words, at + 7);
     let a = word_at(words, at + 8);
@@ -718,16 +649,16 @@ pub fn expression_end(words: &[u32], first: u32, i: u32) -> u32
 }
 
 // An expression of a module, by its number there: its node and its origin by value, lists beside as ranges.
-pub fn expression_at(words: &[u32], m: u32, e: ExpressionId) -> FoundExpression
+pub fn expression_at(words: &[u32], m: u32, e: ExpressionId) -> Option<ExpressionInfo>
     ensures { (file : List ℕ) → found_expression_of file words.now result
         ≡ expression_at (module_row file words.now m) e.0 }
 {
     let rows = rows_of(words, m, EXPRESSION_ROWS);
     let i = e.0;
     if i < rows.count {
-        FoundExpression::Found(expression_row(words, rows.first, i))
+        Some(expression_row(words, rows.first, i))
     } else {
-        FoundExpression::Absent
+        None
     }
 }
 
@@ -746,7 +677,7 @@ fn question_of(kind: u32, m: u32, a: u32, b: u32) -> Question
     ensures { question_of result ≡ question_by kind m a b }
 {
     match kind {
-        0 => Question::Expr(m, ExpressionId(a), type_link(b)),
+        0 => Question::Expr(m, ExpressionId(a), link(b)),
         1 => Question::Def(m, DefinitionIndex(a)),
         2 => Question::Type(m, a, FileScopeId(b)),
         _ => Question::At(m, a),
@@ -765,13 +696,13 @@ pub fn question_row(words: &[u32], q: u32) -> Question
 }
 
 // A question of the file, by its number.
-pub fn question_at(words: &[u32], q: u32) -> FoundQuestion
+pub fn question_at(words: &[u32], q: u32) -> Option<Question>
     ensures { (file : List ℕ) → found_question_of result ≡ slice_get (index_of file words.now).questions q }
 {
     if q < word_at(words, QUESTION_COUNT) {
-        FoundQuestion::Found(question_row(words, q))
+        Some(question_row(words, q))
     } else {
-        FoundQuestion::Absent
+        None
     }
 }
 
@@ -815,10 +746,10 @@ pub fn item_value(words: &[u32], first: u32, i: u32) -> u32
     word_at(words, ITEMS + 2 * ((first as usize) + (i as usize)))
 }
 
-pub fn item_link(words: &[u32], first: u32, i: u32) -> ExpressionLink
+pub fn item_link(words: &[u32], first: u32, i: u32) -> Option<ExpressionId>
     ensures { expression_link_of result ≡ link_by (item_value words.now (first + i)) }
 {
-    expression_link(item_value(words, first, i))
+    link(item_value(words, first, i))
 }
 
 pub fn item_name(words: &[u32], first: u32, i: u32) -> Name
@@ -828,31 +759,31 @@ pub fn item_name(words: &[u32], first: u32, i: u32) -> Name
 }
 
 // A t of a tuple type, or an index of a path.
-pub fn number_item(words: &[u32], items: Items, i: u32) -> NumberItem
-    ensures { number_item_of result ≡ slice_get (numbers_of words.now items) i }
+pub fn number_item(words: &[u32], items: Items, i: u32) -> Option<u32>
+    ensures { result ≡ slice_get (numbers_of words.now items) i }
 {
     let first = items.first;
     if i < items.count {
-        NumberItem::Found(item_value(words, first, i))
+        Some(item_value(words, first, i))
     } else {
-        NumberItem::Absent
+        None
     }
 }
 
 // An argument or an element, which may itself be absent.
-pub fn link_item(words: &[u32], items: Items, i: u32) -> LinkItem
+pub fn link_item(words: &[u32], items: Items, i: u32) -> Option<Option<ExpressionId>>
     ensures { link_item_of result ≡ slice_get (links_of words.now items) i }
 {
     let first = items.first;
     if i < items.count {
-        LinkItem::Found(item_link(words, first, i))
+        Some(item_link(words, first, i))
     } else {
-        LinkItem::Absent
+        None
     }
 }
 
 // A field of a struct, or a parameter of a function.
-pub fn name_with_type_item(words: &[u32], items: Items, i: u32) -> NameWithTypeItem
+pub fn name_with_type_item(words: &[u32], items: Items, i: u32) -> Option<(Name, u32)>
     ensures { (file : List ℕ) → name_with_type_item_of file result
         ≡ slice_get (names_with_types_of file words.now items) i }
 {
@@ -860,8 +791,8 @@ pub fn name_with_type_item(words: &[u32], items: Items, i: u32) -> NameWithTypeI
     if i < items.count {
         let t = item_value(words, first, i);
         let name = item_name(words, first, i);
-        NameWithTypeItem::Found(name, t)
+        Some((name, t))
     } else {
-        NameWithTypeItem::Absent
+        None
     }
 }

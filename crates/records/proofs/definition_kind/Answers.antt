@@ -16,11 +16,11 @@ returns-in-1 c = λ file words. option_here 1 _ _ _ _ c.in-1.is (ap DefinitionKi
 
 pub returns-in-2 : goal.returns-in-2
 unfolding definition_kind_by
-returns-in-2 c = λ file words. option_here 2 _ _ _ _ c.in-2.is (ap₂ DefinitionKind.Const c.type_link.ensures c.expression_link.ensures)
+returns-in-2 c = λ file words. option_here 2 _ _ _ _ c.in-2.is (ap₂ DefinitionKind.Const c.link.ensures c.link-in-2.ensures)
 
 pub returns-in-3 : goal.returns-in-3
 unfolding definition_kind_by
-returns-in-3 c = λ file words. option_here 3 _ _ _ _ c.in-3.is (ap₄ DefinitionKind.Let c.type_link-in-3.ensures c.expression_link-in-3.ensures c.expression_link-in-3-2.ensures (ap₂ (numbers_at words) c.items_of-in-3.ensures.starts c.items_of-in-3.ensures.counts))
+returns-in-3 c = λ file words. option_here 3 _ _ _ _ c.in-3.is (ap₄ DefinitionKind.Let c.link-in-3.ensures c.link-in-3-2.ensures c.link-in-3-3.ensures (ap₂ (numbers_at words) c.items_of-in-3.ensures.starts c.items_of-in-3.ensures.counts))
 
 pub returns-in-4 : goal.returns-in-4
 unfolding definition_kind_by

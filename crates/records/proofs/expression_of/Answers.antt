@@ -20,23 +20,23 @@ returns-in-2 c = λ file words. option_here 2 _ _ _ _ c.in-2.is (ap Expression.I
 
 pub returns-in-3 : goal.returns-in-3
 unfolding expression_by
-returns-in-3 c = λ file words. option_here 3 _ _ _ _ c.in-3.is (ap₂ Expression.Unary c.unary_op.ensures c.expression_link.ensures)
+returns-in-3 c = λ file words. option_here 3 _ _ _ _ c.in-3.is (ap₂ Expression.Unary c.unary_op.ensures c.link.ensures)
 
 pub returns-in-4 : goal.returns-in-4
 unfolding expression_by
-returns-in-4 c = λ file words. option_here 4 _ _ _ _ c.in-4.is (ap₃ Expression.Binary c.binary_op.ensures c.expression_link-in-4.ensures c.expression_link-in-4-2.ensures)
+returns-in-4 c = λ file words. option_here 4 _ _ _ _ c.in-4.is (ap₃ Expression.Binary c.binary_op.ensures c.link-in-4.ensures c.link-in-4-2.ensures)
 
 pub returns-in-5 : goal.returns-in-5
 unfolding expression_by
-returns-in-5 c = λ file words. option_here 5 _ _ _ _ c.in-5.is (ap₂ Expression.FunctionCall c.expression_link-in-5.ensures (ap₂ (links_at words) c.items_of.ensures.starts c.items_of.ensures.counts))
+returns-in-5 c = λ file words. option_here 5 _ _ _ _ c.in-5.is (ap₂ Expression.FunctionCall c.link-in-5.ensures (ap₂ (links_at words) c.items_of.ensures.starts c.items_of.ensures.counts))
 
 pub returns-in-6 : goal.returns-in-6
 unfolding expression_by
-returns-in-6 c = λ file words. option_here 6 _ _ _ _ c.in-6.is (ap₂ Expression.MemberAccess c.expression_link-in-6.ensures (c.name_of-in-6.ensures file))
+returns-in-6 c = λ file words. option_here 6 _ _ _ _ c.in-6.is (ap₂ Expression.MemberAccess c.link-in-6.ensures (c.name_of-in-6.ensures file))
 
 pub returns-in-7 : goal.returns-in-7
 unfolding expression_by
-returns-in-7 c = λ file words. option_here 7 _ _ _ _ c.in-7.is (ap₂ Expression.IndexAccess c.expression_link-in-7.ensures c.expression_link-in-7-2.ensures)
+returns-in-7 c = λ file words. option_here 7 _ _ _ _ c.in-7.is (ap₂ Expression.IndexAccess c.link-in-7.ensures c.link-in-7-2.ensures)
 
 pub returns-in-8 : goal.returns-in-8
 unfolding expression_by
@@ -48,7 +48,7 @@ returns-in-9 c = λ file words. option_here 9 _ _ _ _ c.in-9.is (ap Expression.T
 
 pub returns-in-10 : goal.returns-in-10
 unfolding expression_by
-returns-in-10 c = λ file words. option_here 10 _ _ _ _ c.in-10.is (ap₂ Expression.TupleIndex c.expression_link-in-10.ensures refl)
+returns-in-10 c = λ file words. option_here 10 _ _ _ _ c.in-10.is (ap₂ Expression.TupleIndex c.link-in-10.ensures refl)
 
 pub returns-in-11 : goal.returns-in-11
 unfolding expression_by
@@ -56,7 +56,7 @@ returns-in-11 c = λ file words. option_here 11 _ _ _ _ c.in-11.is (ap Expressio
 
 pub returns-in-12 : goal.returns-in-12
 unfolding expression_by
-returns-in-12 c = λ file words. option_here 12 _ _ _ _ c.in-12.is (ap₂ Expression.ArrayRepeat c.expression_link-in-12.ensures c.size_of.ensures)
+returns-in-12 c = λ file words. option_here 12 _ _ _ _ c.in-12.is (ap₂ Expression.ArrayRepeat c.link-in-12.ensures c.size_of.ensures)
 
 pub returns-in-13 : goal.returns-in-13
 unfolding expression_by
@@ -64,8 +64,8 @@ returns-in-13 c = λ file words. option_here 13 _ _ _ _ c.in-13.is refl
 
 pub returns-in-14 : goal.returns-in-14
 unfolding expression_by
-returns-in-14 c = λ file words. option_here 14 _ _ _ _ c.in-14.is (ap₂ Expression.New refl c.expression_link-in-14.ensures)
+returns-in-14 c = λ file words. option_here 14 _ _ _ _ c.in-14.is (ap₂ Expression.New refl c.link-in-14.ensures)
 
 pub returns-in_default : goal.returns-in_default
 unfolding expression_by
-returns-in_default c = λ file words. option_last _ _ _ _ (none_below 15 _ c.in_default.in_default-own.rest) (ap Expression.Parenthesized c.expression_link-in_default.ensures)
+returns-in_default c = λ file words. option_last _ _ _ _ (none_below 15 _ c.in_default.in_default-own.rest) (ap Expression.Parenthesized c.link-in_default.ensures)

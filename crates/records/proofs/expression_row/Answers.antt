@@ -13,8 +13,8 @@ returns c = let words = c.args.words.now in
       scope = c.word_at-scope.ensures d;
       start = c.word_at-start.ensures d;
       end = c.word_at-end.ensures d;
-      expected = (c.type_link-expected.ensures ∙ ap link_by c.word_at.ensures) d;
-      definition = (c.definition_link-definition.ensures ∙ ap link_by c.word_at-2.ensures) d;
+      expected = (c.link-expected.ensures ∙ ap link_by c.word_at.ensures) d;
+      definition = (c.link-definition.ensures ∙ ap link_by c.word_at-2.ensures) d;
       origin = (c.origin_of-origin.ensures file ∙ ap₃ (origin_by file) (ap (λ k. k / 256) c.word_at-kinds.ensures) c.word_at-link.ensures c.word_at-value.ensures) d;
       node =
           (c.expression_of-node.ensures file words

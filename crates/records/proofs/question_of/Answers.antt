@@ -8,7 +8,7 @@ use Rattle.records.proofs.question_of.Goals as goal
 
 pub returns-in-0 : goal.returns-in-0
 unfolding question_by
-returns-in-0 c = option_here 0 _ _ _ _ c.in-0.is (ap₃ Question.expr refl refl c.type_link.ensures)
+returns-in-0 c = option_here 0 _ _ _ _ c.in-0.is (ap₃ Question.expr refl refl c.link.ensures)
 
 pub returns-in-1 : goal.returns-in-1
 unfolding question_by

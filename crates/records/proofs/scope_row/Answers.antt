@@ -5,4 +5,4 @@ use Rattle.records.proofs.scope_row.Goals as goal
 
 pub returns : goal.returns
 unfolding scope_row
-returns c = λ d. record { parent = (c.scope_link-parent.ensures ∙ ap link_by c.word_at.ensures) d; kind = (c.scope_kind-kind.ensures ∙ ap scope_kind_by c.word_at-2.ensures) d }
+returns c = λ d. record { parent = (c.link-parent.ensures ∙ ap link_by c.word_at.ensures) d; kind = (c.scope_kind-kind.ensures ∙ ap scope_kind_by c.word_at-2.ensures) d }
