@@ -198,12 +198,10 @@ fn field_type(file: &[u8], words: &[u32], fields: Items, name: Name) -> TypeLink
 {
     let first = fields.first;
     let count = fields.count;
-    let mut i: u32 = 0;
-    while i < count {
+    for i in 0..count {
         if semantic_index::names::same_name(file, records::item_name(words, first, i), name) {
             return TypeLink::To(records::item_value(words, first, i));
         }
-        i += 1;
     }
     TypeLink::Absent
 }
