@@ -16,7 +16,7 @@ ghost use Rattle.type_table.specs.Meaning.{fields_in, found_fields_of, found_arr
 ghost use Rattle.type_table.specs.Reads.{struct_or_error, member_read, element_read, tuple_element_read};
 ghost use Rattle.type_table.specs.Reads.{param_read, return_read, array_read, numeric_read, numeric_context_read};
 ghost use Rattle.type_table.specs.Reads.{element_hint_read, navigate_read};
-ghost use Rattle.type_table.specs.Promises.{Copied, NamesCopied, cleared, Starts, same_heads, same_rows, Added};
+ghost use Rattle.type_table.specs.Promises.{Copied, NamesCopied, cleared, Starts, same_rows, Added};
 ghost use Rattle.type_table.specs.Promises.{Interns, Reads, DataRead, TupleRead, SignatureRead, ContextsRead};
 
 use records::{Items, Name};
@@ -160,23 +160,7 @@ fn names_of(types: &[u32], t: u32) -> &[u32]
         let count = records::word_at(types, at + 9) as usize;
         return words_from(types, NAMES + start, count);
     }
-    &types[0..0]
-}
-
-fn same_words(a: &[u32], b: &[u32]) -> bool
-    ensures { result ≡ eq_numbers a.now b.now }
-{
-    if a.len() != b.len() {
-        return false;
-    }
-    let mut i = 0;
-    while i < a.len() {
-        if a[i] != b[i] {
-            return false;
-        }
-        i += 1;
-    }
-    true
+    &[]
 }
 
 fn same_names(file: &[u8], a: &[u32], b: &[u32]) -> bool
@@ -185,14 +169,13 @@ fn same_names(file: &[u8], a: &[u32], b: &[u32]) -> bool
     if a.len() != b.len() {
         return false;
     }
-    let mut i = 0;
-    while i < a.len() {
+    let count = a.len();
+    for i in 0..count {
         let x = a[i];
         let y = b[i];
         if !names::same_name(file, records::name_of(x), records::name_of(y)) {
             return false;
         }
-        i += 1;
     }
     true
 }
@@ -202,27 +185,16 @@ fn copy_to(words: &mut [u32], at: usize, src: &[u32])
     requires { at + length src.now ≤ length words.old }
     ensures { Copied at src.now words.old words.new }
 {
-    let mut i = 0;
-    while i < src.len() {
-        words[at + i] = src[i];
-        i += 1;
-    }
+    let end = at + src.len();
+    words[at..end].copy_from_slice(src);
 }
 
 // Sets the first 8,192 words to zero.
 pub fn clear(types: &mut [u32])
     ensures { types.new ≡ cleared types.old }
 {
-    let len = types.len();
-    let mut end: usize = WORDS;
-    if len < WORDS {
-        end = len;
-    }
-    let mut i: usize = 0;
-    while i < end {
-        types[i] = 0;
-        i += 1;
-    }
+    let end = types.len().min(WORDS);
+    types[..end].fill(0);
 }
 
 // The six first types, and zeros.
@@ -490,35 +462,13 @@ pub fn suffix_type(file: &[u8], suffix: Option<Name>) -> Option<u32>
 // The functions that intern ask that the words hold a table and that the types named are of it, so that an element's number is below its holder's. To test
 // it would be to read the whole table at each type; a table has it from `start` on, and each of these keeps it.
 
-fn same_head(a: Head, b: Head) -> bool
-    ensures { result ≡ same_heads a b }
-{
-    if a.kind != b.kind {
-        return false;
-    }
-    if a.home != b.home {
-        return false;
-    }
-    if a.definition != b.definition {
-        return false;
-    }
-    if a.element != b.element {
-        return false;
-    }
-    a.size == b.size
-}
-
 // Whether a head with its lists is that of the row of a type.
 fn same_row(file: &[u8], types: &[u32], t: u32, head: Head, names: &[u32], items: &[u32]) -> bool
     ensures { result ≡ same_rows file.now head names.now items.now types.now t }
 {
-    if !same_head(head, head_of(types, t)) {
-        return false;
-    }
-    if !same_words(items, items_of(types, t)) {
-        return false;
-    }
-    same_names(file, names, names_of(types, t))
+    head == head_of(types, t)
+        && items == items_of(types, t)
+        && same_names(file, names, names_of(types, t))
 }
 
 // The number of the type, where the table has it.
@@ -596,22 +546,27 @@ fn intern(
     Ok(t)
 }
 
+// What a head holds beside its kind where its kind has no use for it.
+const NO_PARTS: Head = Head {
+    kind: 0,
+    home: 0,
+    definition: 0,
+    element: 0,
+    size: 0,
+};
+
 // Interns a pointer to a type.
 pub fn intern_pointer(file: &[u8], types: &mut [u32], element: u32) -> Result<u32, Refusal>
     requires sound { Sound file.now types.old }
     requires element_bound { element < type_count types.old }
     ensures { Interns file.now (Data.Pointer element) types.old types.new result }
 {
-    let names = [0u32];
-    let items = [0u32];
     let head = Head {
         kind: KIND_POINTER,
-        home: 0,
-        definition: 0,
         element,
-        size: 0,
+        ..NO_PARTS
     };
-    intern(file, types, head, &names[..0], &items[..0])
+    intern(file, types, head, &[], &[])
 }
 
 // Interns an array of a type.
@@ -620,16 +575,13 @@ pub fn intern_array(file: &[u8], types: &mut [u32], element: u32, size: u64) -> 
     requires element_bound { element < type_count types.old }
     ensures { Interns file.now (Data.FixedArray element size) types.old types.new result }
 {
-    let names = [0u32];
-    let items = [0u32];
     let head = Head {
         kind: KIND_ARRAY,
-        home: 0,
-        definition: 0,
         element,
         size,
+        ..NO_PARTS
     };
-    intern(file, types, head, &names[..0], &items[..0])
+    intern(file, types, head, &[], &[])
 }
 
 // Interns a tuple of types.
@@ -638,15 +590,11 @@ pub fn intern_tuple(file: &[u8], types: &mut [u32], elements: &[u32]) -> Result<
     requires all_below { AllBelow (type_count types.old) elements.now }
     ensures { Interns file.now (Data.Tuple elements.now) types.old types.new result }
 {
-    let names = [0u32];
     let head = Head {
         kind: KIND_TUPLE,
-        home: 0,
-        definition: 0,
-        element: 0,
-        size: 0,
+        ..NO_PARTS
     };
-    intern(file, types, head, &names[..0], elements)
+    intern(file, types, head, &[], elements)
 }
 
 // The name words of the fields.
@@ -656,10 +604,8 @@ fn copy_names(words: &[u32], fields: Items, names: &mut [u32])
 {
     let first = fields.first as usize;
     let count = fields.count as usize;
-    let mut i: usize = 0;
-    while i < count {
+    for i in 0..count {
         names[i] = records::word_at(words, records::ITEMS + 2 * (first + i) + 1);
-        i += 1;
     }
 }
 
@@ -685,8 +631,7 @@ pub fn intern_struct(
         kind: KIND_STRUCT,
         home: m,
         definition: d,
-        element: 0,
-        size: 0,
+        ..NO_PARTS
     };
     intern(file, types, head, &names[..count], elements)
 }
@@ -705,13 +650,12 @@ pub fn intern_function(
     requires return_type_bound { return_type < type_count types.old }
     ensures { Interns file.now (Data.Function m d params.now return_type) types.old types.new result }
 {
-    let names = [0u32];
     let head = Head {
         kind: KIND_FUNCTION,
         home: m,
         definition: d,
         element: return_type,
-        size: 0,
+        ..NO_PARTS
     };
-    intern(file, types, head, &names[..0], params)
+    intern(file, types, head, &[], params)
 }
