@@ -87,6 +87,13 @@ impl RecordNumber for ExpressionId {
     }
 }
 
+// A loaded index: the bytes of the file and its record words, which are read together.
+#[derive(Clone, Copy)]
+pub struct Index<'a> {
+    pub file: &'a [u8],
+    pub words: &'a [u32],
+}
+
 // A name is a part of the file.
 #[derive(Clone, Copy)]
 pub struct Name {

@@ -92,7 +92,7 @@ module _ (file words : List ℕ) (r : Option Info) (o : Option ExpressionInfo) (
   pub covered_end : (start end : ℕ) (x : Info) → r ≡ Some x → x.start ≤ start → leb end x.end ≡ covered o start end
   covered_end start end x h le = ap (λ b. b && leb end x.end) (sym (le-leb x.start start le)) ∙ covered_found start end x h
 
-module _ (the_module : Module) (definition : Definition) (start end : ℕ) (l : (Option ExpressionId)) (is : expression_link_of l ≡ let_value definition.kind) where
+module _ (the_module : Module) (definition : Definition) (start end : ℕ) (l : Option ExpressionId) (is : expression_link_of l ≡ let_value definition.kind) where
   abbrev value_covers : Option ℕ → Bool
   value_covers o = let_some o false (λ e. covered (expression_at the_module e) start end)
 

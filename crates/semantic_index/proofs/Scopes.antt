@@ -19,10 +19,10 @@ use Rattle.records.specs.declared.Scope.{Scope}
 abbrev up : Option model.Scope → Option ℕ
 up o = let_some o None (λ scope. scope.parent)
 
-pub parent_absent : (r : (Option Scope)) (o : Option model.Scope) → r ≡ None → found_scope_of r ≡ o → None ≡ up o
+pub parent_absent : (r : Option Scope) (o : Option model.Scope) → r ≡ None → found_scope_of r ≡ o → None ≡ up o
 parent_absent r o h e = ap (λ r. up (found_scope_of r)) (sym h) ∙ ap up e
 
-pub parent_found : (r : (Option Scope)) (o : Option model.Scope) (s : Scope) → r ≡ Some s → found_scope_of r ≡ o → scope_link_of s.parent ≡ up o
+pub parent_found : (r : Option Scope) (o : Option model.Scope) (s : Scope) → r ≡ Some s → found_scope_of r ≡ o → scope_link_of s.parent ≡ up o
 parent_found r o s h e = ap (λ r. up (found_scope_of r)) (sym h) ∙ ap up e
 
 -- ------------------------------------------------------------------ the scopes that are left
