@@ -229,15 +229,15 @@ pub fn data(types: &[u32], t: u32) -> TypeData
     let list = TypeList { first, count };
     let kind = head.kind;
     match kind {
-        0 => TypeData::Felt,
-        1 => TypeData::Bool,
-        2 => TypeData::U32,
-        3 => TypeData::Unknown,
-        5 => TypeData::Tuple(list),
-        6 => TypeData::Pointer(head.element),
-        7 => TypeData::FixedArray(head.element, head.size),
-        8 => TypeData::Struct(head.home, head.definition, list),
-        9 => TypeData::Function(head.home, head.definition, list, head.element),
+        FELT => TypeData::Felt,
+        BOOL => TypeData::Bool,
+        U32 => TypeData::U32,
+        KIND_UNKNOWN => TypeData::Unknown,
+        KIND_TUPLE => TypeData::Tuple(list),
+        KIND_POINTER => TypeData::Pointer(head.element),
+        KIND_ARRAY => TypeData::FixedArray(head.element, head.size),
+        KIND_STRUCT => TypeData::Struct(head.home, head.definition, list),
+        KIND_FUNCTION => TypeData::Function(head.home, head.definition, list, head.element),
         _ => TypeData::Error,
     }
 }
@@ -299,12 +299,7 @@ pub fn item(types: &[u32], list: TypeList, i: u32) -> Option<u32>
     ensures { result ≡ slice_get (types_of types.now list) i }
 {
     let listed = words_from(types, ITEMS + (list.first as usize), list.count as usize);
-    let place = i as usize;
-    if place < listed.len() {
-        Some(listed[place])
-    } else {
-        None
-    }
+    listed.get(i as usize).copied()
 }
 
 // The type of the first field of the name.
