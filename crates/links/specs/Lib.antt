@@ -1,3 +1,2 @@
--- What the answers of this crate mean. Definitions only.
-pub mod Meaning
+-- The promises of this crate that have more than one part.
 pub mod Promises

@@ -1,7 +1,7 @@
 // Whether the links of the rows of a loaded index lead to records. What each kind of row must keep is in format's specs/LinkCheck.antt.
 #![tactic(auto)]
 
-ghost use Rattle.std.specs.Prelude.{◌≡◌, ℕ, ◌+◌, not, List, ◌++◌, map};
+ghost use Rattle.std.specs.Prelude.{◌≡◌, ℕ, ◌+◌, not, List, ◌++◌, map, option_map};
 ghost use Rattle.model.specs.Common.{first};
 ghost use Rattle.model.specs.Records as model;
 ghost use Rattle.model.specs.Links.{link, links, definition_types, definition_expressions};
@@ -12,27 +12,12 @@ ghost use Rattle.records.specs.Layout.{scope_row, type_expr_row, definition_row,
 ghost use Rattle.records.specs.Layout.{module_row, index_of};
 ghost use Rattle.records.specs.Meaning.{numbers_of, links_of, type_link_of, definition_link_of, expression_link_of};
 ghost use Rattle.records.specs.Meaning.{definition_kind_of, origin_of, expression_of};
-ghost use Rattle.links.specs.Meaning.{fault_of, row_fault_of};
 ghost use Rattle.links.specs.Promises.{LineCount};
 
 use records::{
-    DefinitionKind, DefinitionLink, Expression, ExpressionId, ExpressionLink, FileScopeId, Items,
-    Origin, Question, ScopeLink, TypeExpr, TypeLink,
+    DefinitionKind, Expression, ExpressionId, FileScopeId, Items, Origin, Question, RecordNumber,
+    TypeExpr,
 };
-
-// The place of the first line whose links don't lead, counted from 0.
-#[derive(Clone, Copy)]
-pub enum Fault {
-    At(usize),
-    Nothing,
-}
-
-// The number of a module's first row of a kind whose links don't lead.
-#[derive(Clone, Copy)]
-enum RowFault {
-    At(u32),
-    Nothing,
-}
 
 // ------------------------------------------------------------------ links below a number of records
 
@@ -42,53 +27,33 @@ fn numbers_below(words: &[u32], items: Items, n: u32) -> bool
 {
     let begin = items.first;
     let count = items.count;
-    let mut i: u32 = 0;
-    while i < count {
+    for i in 0..count {
         let k = records::item_value(words, begin, i);
         if n <= k {
             return false;
         }
-        i += 1;
     }
     true
 }
 
 // A link that is there is below `n`.
-fn type_link_below(to: TypeLink, n: u32) -> bool
-    ensures { result ≡ all_below n (link (type_link_of to)) }
+fn link_below<R: RecordNumber>(to: Option<R>, n: u32) -> bool
+    ensures { result ≡ all_below n (link (option_map R.number to)) }
 {
     match to {
-        TypeLink::Absent => true,
-        TypeLink::To(t) => t < n,
-    }
-}
-
-fn definition_link_below(to: DefinitionLink, n: u32) -> bool
-    ensures { result ≡ all_below n (link (definition_link_of to)) }
-{
-    match to {
-        DefinitionLink::Absent => true,
-        DefinitionLink::To(d) => d.0 < n,
-    }
-}
-
-fn expression_link_below(to: ExpressionLink, n: u32) -> bool
-    ensures { result ≡ all_below n (link (expression_link_of to)) }
-{
-    match to {
-        ExpressionLink::Absent => true,
-        ExpressionLink::To(e) => e.0 < n,
+        None => true,
+        Some(k) => k.get() < n,
     }
 }
 
 // Each of two links that is there is below `n`.
-fn both_below(a: ExpressionLink, b: ExpressionLink, n: u32) -> bool
+fn both_below(a: Option<ExpressionId>, b: Option<ExpressionId>, n: u32) -> bool
     ensures { result ≡ all_below n (link (expression_link_of a) ++ link (expression_link_of b)) }
 {
-    if !expression_link_below(a, n) {
+    if !link_below(a, n) {
         return false;
     }
-    expression_link_below(b, n)
+    link_below(b, n)
 }
 
 // Each link of the list that is there is below `n`.
@@ -97,13 +62,11 @@ fn links_below(words: &[u32], items: Items, n: u32) -> bool
 {
     let begin = items.first;
     let count = items.count;
-    let mut i: u32 = 0;
-    while i < count {
+    for i in 0..count {
         let to = records::item_link(words, begin, i);
-        if !expression_link_below(to, n) {
+        if !link_below(to, n) {
             return false;
         }
-        i += 1;
     }
     true
 }
@@ -117,8 +80,8 @@ fn scope_linked(words: &[u32], begin: u32, s: u32) -> bool
     let scope = records::scope_row(words, begin, s);
     let up = scope.parent;
     match up {
-        ScopeLink::Absent => s == 0,
-        ScopeLink::To(p) => p.0 < s,
+        None => s == 0,
+        Some(p) => p.0 < s,
     }
 }
 
@@ -153,8 +116,8 @@ fn definition_types_below(words: &[u32], kind: DefinitionKind, n: u32) -> bool
             numbers_below(words, params, n)
         }
         DefinitionKind::Struct(fields) => numbers_below(words, fields, n),
-        DefinitionKind::Const(t, _) => type_link_below(t, n),
-        DefinitionKind::Let(t, _, _, _) => type_link_below(t, n),
+        DefinitionKind::Const(t, _) => link_below(t, n),
+        DefinitionKind::Let(t, _, _, _) => link_below(t, n),
         DefinitionKind::Parameter(t) => t < n,
         DefinitionKind::Use(_, _) => true,
         DefinitionKind::LoopVariable => true,
@@ -169,7 +132,7 @@ fn definition_expressions_below(kind: DefinitionKind, n: u32) -> bool
     match kind {
         DefinitionKind::Function(_, _) => true,
         DefinitionKind::Struct(_) => true,
-        DefinitionKind::Const(_, e) => expression_link_below(e, n),
+        DefinitionKind::Const(_, e) => link_below(e, n),
         DefinitionKind::Let(_, e, v, _) => both_below(e, v, n),
         DefinitionKind::Parameter(_) => true,
         DefinitionKind::Use(_, _) => true,
@@ -223,24 +186,24 @@ fn node_expressions_below(words: &[u32], node: Expression, n: u32) -> bool
         Expression::Literal(_) => true,
         Expression::BooleanLiteral => true,
         Expression::Identifier(_) => true,
-        Expression::Unary(_, e) => expression_link_below(e, n),
+        Expression::Unary(_, e) => link_below(e, n),
         Expression::Binary(_, left, right) => both_below(left, right, n),
         Expression::FunctionCall(callee, args) => {
-            if !expression_link_below(callee, n) {
+            if !link_below(callee, n) {
                 return false;
             }
             links_below(words, args, n)
         }
-        Expression::MemberAccess(object, _) => expression_link_below(object, n),
+        Expression::MemberAccess(object, _) => link_below(object, n),
         Expression::IndexAccess(array, index) => both_below(array, index, n),
         Expression::StructLiteral(_, _, _) => true,
         Expression::Tuple(elements) => links_below(words, elements, n),
-        Expression::TupleIndex(tuple, _) => expression_link_below(tuple, n),
+        Expression::TupleIndex(tuple, _) => link_below(tuple, n),
         Expression::ArrayLiteral(elements) => links_below(words, elements, n),
-        Expression::ArrayRepeat(element, _) => expression_link_below(element, n),
+        Expression::ArrayRepeat(element, _) => link_below(element, n),
         Expression::Cast(_) => true,
-        Expression::New(_, count) => expression_link_below(count, n),
-        Expression::Parenthesized(inner) => expression_link_below(inner, n),
+        Expression::New(_, count) => link_below(count, n),
+        Expression::Parenthesized(inner) => link_below(inner, n),
     }
 }
 
@@ -256,11 +219,11 @@ fn node_types_below(node: Expression, n: u32) -> bool
 }
 
 // Each T that an expression names is below `n`: the expected one and its node's.
-fn expression_types_below(expected: TypeLink, node: Expression, n: u32) -> bool
+fn expression_types_below(expected: Option<u32>, node: Expression, n: u32) -> bool
     ensures { (file words : List ℕ) → result
         ≡ all_below n (link (type_link_of expected) ++ node_types (expression_of file words node)) }
 {
-    if !type_link_below(expected, n) {
+    if !link_below(expected, n) {
         return false;
     }
     node_types_below(node, n)
@@ -300,7 +263,7 @@ fn expression_linked(words: &[u32], m: u32, begin: u32, e: u32) -> bool
     if !expression_types_below(expected, node, types) {
         return false;
     }
-    if !definition_link_below(definition, definitions) {
+    if !link_below(definition, definitions) {
         return false;
     }
     expression_expressions_below(words, origin, node, expressions)
@@ -309,7 +272,7 @@ fn expression_linked(words: &[u32], m: u32, begin: u32, e: u32) -> bool
 // ------------------------------------------------------------------ questions
 
 // The context of an `expr` question is a T of the module, if the module and the expression exist.
-fn context_linked(words: &[u32], m: u32, e: ExpressionId, t: TypeLink) -> bool
+fn context_linked(words: &[u32], m: u32, e: ExpressionId, t: Option<u32>) -> bool
     ensures { (file : List ℕ) → result
         ≡ question_linked (index_of file words.now) (model.Question.expr m e.0 (type_link_of t)) }
 {
@@ -321,7 +284,7 @@ fn context_linked(words: &[u32], m: u32, e: ExpressionId, t: TypeLink) -> bool
         return true;
     }
     let types = records::type_expr_count(words, m);
-    type_link_below(t, types)
+    link_below(t, types)
 }
 
 // The T and the scope of a `type` question are the module's, if the module exists.
@@ -356,94 +319,84 @@ fn question_linked(words: &[u32], q: u32) -> bool
 // ------------------------------------------------------------------ the first row of a kind whose links don't lead
 
 // The module's first scope whose parent is not as it must be.
-fn scope_fault(words: &[u32], m: u32) -> RowFault
-    ensures { (file : List ℕ) → row_fault_of result
+fn scope_fault(words: &[u32], m: u32) -> Option<u32>
+    ensures { (file : List ℕ) → result
         ≡ first not (map_from scope_linked 0 (module_row file words.now m).scopes) }
 {
     let rows = records::rows_of(words, m, records::SCOPE_ROWS);
     let begin = rows.first;
     let count = rows.count;
-    let mut s: u32 = 0;
-    while s < count {
+    for s in 0..count {
         if !scope_linked(words, begin, s) {
-            return RowFault::At(s);
+            return Some(s);
         }
-        s += 1;
     }
-    RowFault::Nothing
+    None
 }
 
 // The module's first T that names one which is not earlier.
-fn type_fault(words: &[u32], m: u32) -> RowFault
-    ensures { (file : List ℕ) → row_fault_of result
+fn type_fault(words: &[u32], m: u32) -> Option<u32>
+    ensures { (file : List ℕ) → result
         ≡ first not (map_from type_linked 0 (module_row file words.now m).types) }
 {
     let rows = records::rows_of(words, m, records::TYPE_EXPR_ROWS);
     let begin = rows.first;
     let count = rows.count;
-    let mut t: u32 = 0;
-    while t < count {
+    for t in 0..count {
         if !type_linked(words, begin, t) {
-            return RowFault::At(t);
+            return Some(t);
         }
-        t += 1;
     }
-    RowFault::Nothing
+    None
 }
 
 // The module's first D with a link to no record of the module.
-fn definition_fault(words: &[u32], m: u32) -> RowFault
-    ensures { (file : List ℕ) → row_fault_of result
+fn definition_fault(words: &[u32], m: u32) -> Option<u32>
+    ensures { (file : List ℕ) → result
         ≡ first not (map (definition_linked (module_row file words.now m))
         (module_row file words.now m).definitions) }
 {
     let rows = records::rows_of(words, m, records::DEFINITION_ROWS);
     let begin = rows.first;
     let count = rows.count;
-    let mut d: u32 = 0;
-    while d < count {
+    for d in 0..count {
         if !definition_linked(words, m, begin, d) {
-            return RowFault::At(d);
+            return Some(d);
         }
-        d += 1;
     }
-    RowFault::Nothing
+    None
 }
 
 // The module's first E with a link to no record of the module.
-fn expression_fault(words: &[u32], m: u32) -> RowFault
-    ensures { (file : List ℕ) → row_fault_of result
+fn expression_fault(words: &[u32], m: u32) -> Option<u32>
+    ensures { (file : List ℕ) → result
         ≡ first not (map (expression_linked (module_row file words.now m))
         (module_row file words.now m).expressions) }
 {
     let rows = records::rows_of(words, m, records::EXPRESSION_ROWS);
     let begin = rows.first;
     let count = rows.count;
-    let mut e: u32 = 0;
-    while e < count {
+    for e in 0..count {
         if !expression_linked(words, m, begin, e) {
-            return RowFault::At(e);
+            return Some(e);
         }
-        e += 1;
     }
-    RowFault::Nothing
+    None
 }
 
 // The number of the first question whose links don't lead.
-pub fn question_fault(words: &[u32]) -> Fault
-    ensures { (file : List ℕ) → fault_of result
+pub fn question_fault(words: &[u32]) -> Option<usize>
+    ensures { (file : List ℕ) → result
         ≡ first not (map (question_linked (index_of file words.now))
         (index_of file words.now).questions) }
 {
     let count = records::question_count(words);
-    let mut q: u32 = 0;
-    while q < count {
+    for q in 0..count {
         if !question_linked(words, q) {
-            return Fault::At(q as usize);
+            return Some(q as usize);
         }
-        q += 1;
     }
-    Fault::Nothing
+    None
 }
 
 // ------------------------------------------------------------------ the lines of a module
@@ -461,30 +414,30 @@ pub fn line_count(words: &[u32], m: u32) -> usize
 
 // The place of the module's first line whose links don't lead. Line 0 is the module's own: a module has a scope.
 // The lines of its S, T, D and E follow in this order.
-pub fn module_fault(words: &[u32], m: u32) -> Fault
-    ensures { (file : List ℕ) → fault_of result
+pub fn module_fault(words: &[u32], m: u32) -> Option<usize>
+    ensures { (file : List ℕ) → result
         ≡ first not (module_lines (module_row file words.now m)) }
 {
     let scopes = records::scope_count(words, m);
     if scopes == 0 {
-        return Fault::At(0);
+        return Some(0);
     }
-    if let RowFault::At(s) = scope_fault(words, m) {
-        return Fault::At(1 + (s as usize));
+    if let Some(s) = scope_fault(words, m) {
+        return Some(1 + (s as usize));
     }
     let types_at = 1 + (scopes as usize);
-    if let RowFault::At(t) = type_fault(words, m) {
-        return Fault::At(types_at + (t as usize));
+    if let Some(t) = type_fault(words, m) {
+        return Some(types_at + (t as usize));
     }
     let types = records::type_expr_count(words, m);
     let definitions_at = types_at + (types as usize);
-    if let RowFault::At(d) = definition_fault(words, m) {
-        return Fault::At(definitions_at + (d as usize));
+    if let Some(d) = definition_fault(words, m) {
+        return Some(definitions_at + (d as usize));
     }
     let definitions = records::definition_count(words, m);
     let expressions_at = definitions_at + (definitions as usize);
-    if let RowFault::At(e) = expression_fault(words, m) {
-        return Fault::At(expressions_at + (e as usize));
+    if let Some(e) = expression_fault(words, m) {
+        return Some(expressions_at + (e as usize));
     }
-    Fault::Nothing
+    None
 }

@@ -1,4 +1,5 @@
 -- The tests at a definition, and where the searches through a module's rows begin. Assumes nothing.
+use Rattle.std.specs.Prelude.{Some}
 use mathlib.Core.Path.{◌≡◌, sym, ap, ap₂, ◌∙◌}
 use mathlib.Core.Bool.{Bool, true, false, not, ◌&&◌, ◌||◌}
 use Prim.Native.Nat.{ℕ, ◌+◌, ◌≤◌, ◌<◌}
@@ -48,9 +49,7 @@ use Rattle.records.specs.Layout.{
 use Rattle.records.proofs.Lists.{each_length}
 use Rattle.records.specs.Meaning.{definition_link_of, expression_link_of, found_expression_of}
 use Rattle.records.specs.declared.ExpressionId.{ExpressionId}
-use Rattle.records.specs.declared.ExpressionLink.{ExpressionLink}
 use Rattle.records.specs.declared.ExpressionInfo.{ExpressionInfo as Info}
-use Rattle.records.specs.declared.FoundExpression.{FoundExpression}
 use Rattle.semantic_index.proofs.Searches.{first_from, first_begin}
 
 -- ------------------------------------------------------------------ a definition of the name in the scope
@@ -72,36 +71,36 @@ module _ (s : ℕ) (name : Name) (definition : Definition) (x : ℕ) (is : x ≡
 abbrev recorded : Option ExpressionInfo → Option ℕ
 recorded o = let_some o None (λ expression. expression.definition)
 
-module _ (file words : List ℕ) (r : FoundExpression) (o : Option ExpressionInfo) (is : found_expression_of file words r ≡ o) where
-  pub recorded_absent : r ≡ FoundExpression.Absent → None ≡ recorded o
+module _ (file words : List ℕ) (r : Option Info) (o : Option ExpressionInfo) (is : found_expression_of file words r ≡ o) where
+  pub recorded_absent : r ≡ None → None ≡ recorded o
   recorded_absent h = ap (λ r. recorded (found_expression_of file words r)) (sym h) ∙ ap recorded is
 
-  pub recorded_found : (x : Info) → r ≡ FoundExpression.Found x → definition_link_of x.definition ≡ recorded o
+  pub recorded_found : (x : Info) → r ≡ Some x → definition_link_of x.definition ≡ recorded o
   recorded_found x h = ap (λ r. recorded (found_expression_of file words r)) (sym h) ∙ ap recorded is
 
-  pub covered_absent : (start end : ℕ) → r ≡ FoundExpression.Absent → false ≡ covered o start end
+  pub covered_absent : (start end : ℕ) → r ≡ None → false ≡ covered o start end
   unfolding covered
   covered_absent start end h = ap (λ r. covered (found_expression_of file words r) start end) (sym h) ∙ ap (λ o. covered o start end) is
 
-  covered_found : (start end : ℕ) (x : Info) → r ≡ FoundExpression.Found x → (leb x.start start && leb end x.end) ≡ covered o start end
+  covered_found : (start end : ℕ) (x : Info) → r ≡ Some x → (leb x.start start && leb end x.end) ≡ covered o start end
   unfolding covered
   covered_found start end x h = ap (λ r. covered (found_expression_of file words r) start end) (sym h) ∙ ap (λ o. covered o start end) is
 
-  pub covered_before : (start end : ℕ) (x : Info) → r ≡ FoundExpression.Found x → start < x.start → false ≡ covered o start end
+  pub covered_before : (start end : ℕ) (x : Info) → r ≡ Some x → start < x.start → false ≡ covered o start end
   covered_before start end x h lt = ap (λ b. b && leb end x.end) (sym (lt-leb x.start start lt)) ∙ covered_found start end x h
 
-  pub covered_end : (start end : ℕ) (x : Info) → r ≡ FoundExpression.Found x → x.start ≤ start → leb end x.end ≡ covered o start end
+  pub covered_end : (start end : ℕ) (x : Info) → r ≡ Some x → x.start ≤ start → leb end x.end ≡ covered o start end
   covered_end start end x h le = ap (λ b. b && leb end x.end) (sym (le-leb x.start start le)) ∙ covered_found start end x h
 
-module _ (the_module : Module) (definition : Definition) (start end : ℕ) (l : ExpressionLink) (is : expression_link_of l ≡ let_value definition.kind) where
+module _ (the_module : Module) (definition : Definition) (start end : ℕ) (l : Option ExpressionId) (is : expression_link_of l ≡ let_value definition.kind) where
   abbrev value_covers : Option ℕ → Bool
   value_covers o = let_some o false (λ e. covered (expression_at the_module e) start end)
 
-  pub initializer_absent : l ≡ ExpressionLink.Absent → false ≡ in_let_initializer the_module definition start end
+  pub initializer_absent : l ≡ None → false ≡ in_let_initializer the_module definition start end
   unfolding in_let_initializer
   initializer_absent h = ap value_covers (ap expression_link_of (sym h) ∙ is)
 
-  pub initializer_found : (x : ExpressionId) (b : Bool) → l ≡ ExpressionLink.To x → b ≡ covered (expression_at the_module x.0) start end
+  pub initializer_found : (x : ExpressionId) (b : Bool) → l ≡ Some x → b ≡ covered (expression_at the_module x.0) start end
       → b ≡ in_let_initializer the_module definition start end
   unfolding in_let_initializer
   initializer_found x b h c = c ∙ ap value_covers (ap expression_link_of (sym h) ∙ is)

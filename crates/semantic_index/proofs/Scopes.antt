@@ -11,7 +11,6 @@ use Rattle.model.specs.Common.{let_some, or_else, first_some, any}
 use Rattle.model.specs.Records as model
 use Rattle.model.specs.Lookups.{parent, chain_from, scope_chain, among}
 use Rattle.records.specs.Meaning.{found_scope_of, scope_link_of}
-use Rattle.records.specs.declared.FoundScope.{FoundScope}
 use Rattle.records.specs.declared.Scope.{Scope}
 
 -- ------------------------------------------------------------------ one step
@@ -20,10 +19,10 @@ use Rattle.records.specs.declared.Scope.{Scope}
 abbrev up : Option model.Scope → Option ℕ
 up o = let_some o None (λ scope. scope.parent)
 
-pub parent_absent : (r : FoundScope) (o : Option model.Scope) → r ≡ FoundScope.Absent → found_scope_of r ≡ o → None ≡ up o
+pub parent_absent : (r : Option Scope) (o : Option model.Scope) → r ≡ None → found_scope_of r ≡ o → None ≡ up o
 parent_absent r o h e = ap (λ r. up (found_scope_of r)) (sym h) ∙ ap up e
 
-pub parent_found : (r : FoundScope) (o : Option model.Scope) (s : Scope) → r ≡ FoundScope.Found s → found_scope_of r ≡ o → scope_link_of s.parent ≡ up o
+pub parent_found : (r : Option Scope) (o : Option model.Scope) (s : Scope) → r ≡ Some s → found_scope_of r ≡ o → scope_link_of s.parent ≡ up o
 parent_found r o s h e = ap (λ r. up (found_scope_of r)) (sym h) ∙ ap up e
 
 -- ------------------------------------------------------------------ the scopes that are left
@@ -71,8 +70,8 @@ module _ (g : ℕ → Option ℕ) where
   no_answer = λ i. None
 
 module _ (g : ℕ → Option ℕ) (the_module : model.Module) where
-  pub found_begin : (s : ℕ) → first_some g (scope_chain the_module s) ≡ first_some g (chain_from (s + 1) the_module s)
-  found_begin s = ap (first_some g) (chain_begin the_module s)
+  pub found_begin : (s n : ℕ) → n ≡ s + 1 → first_some g (scope_chain the_module s) ≡ first_some g (chain_from n the_module s)
+  found_begin s n e = ap (first_some g) (chain_begin the_module s) ∙ ap (λ n. first_some g (chain_from n the_module s)) (sym e)
 
   pub found_hit : (left s : ℕ) (x : Option ℕ) (d : ℕ) → 0 < left → x ≡ g s → x ≡ Some d → first_some g (chain_from left the_module s) ≡ Some d
   found_hit left s x d h e hit = ap (first_some g) (chain_turn the_module left s h) ∙ answer_here g s d _ x e hit
@@ -81,9 +80,11 @@ module _ (g : ℕ → Option ℕ) (the_module : model.Module) where
       → first_some g (chain_from left the_module s) ≡ None
   found_top left s x y h e miss is top = ap (first_some g) (chain_top the_module left s y h is top) ∙ answer_later g s [] x e miss ∙ no_answer g
 
-  pub found_up : (left s p : ℕ) (x y : Option ℕ) → 0 < left → x ≡ g s → x ≡ None → y ≡ parent the_module s → y ≡ Some p
-      → first_some g (chain_from left the_module s) ≡ first_some g (chain_from (left - 1) the_module p)
-  found_up left s p x y h e miss is to = ap (first_some g) (chain_up the_module left s p y h is to) ∙ answer_later g s _ x e miss
+  pub found_up : (left less s p : ℕ) (x y : Option ℕ) → 0 < left → less ≡ left - 1 → x ≡ g s → x ≡ None → y ≡ parent the_module s → y ≡ Some p
+      → first_some g (chain_from left the_module s) ≡ first_some g (chain_from less the_module p)
+  found_up left less s p x y h one e miss is to =
+      ap (first_some g) (chain_up the_module left s p y h is to) ∙ answer_later g s _ x e miss
+      ∙ ap (λ n. first_some g (chain_from n the_module p)) (sym one)
 
   pub found_end : (left s : ℕ) → left ≤ 0 → first_some g (chain_from left the_module s) ≡ None
   found_end left s h = ap (first_some g) (chain_end the_module left s h) ∙ no_answer g
@@ -104,8 +105,8 @@ module _ (x : ℕ) where
   among_none = λ i. false
 
 module _ (x : ℕ) (the_module : model.Module) where
-  pub met_begin : (s : ℕ) → among x (scope_chain the_module s) ≡ among x (chain_from (s + 1) the_module s)
-  met_begin s = ap (among x) (chain_begin the_module s)
+  pub met_begin : (s n : ℕ) → n ≡ s + 1 → among x (scope_chain the_module s) ≡ among x (chain_from n the_module s)
+  met_begin s n e = ap (among x) (chain_begin the_module s) ∙ ap (λ n. among x (chain_from n the_module s)) (sym e)
 
   pub met_hit : (left s : ℕ) → 0 < left → x ≡ s → among x (chain_from left the_module s) ≡ true
   met_hit left s h eq = ap (among x) (chain_turn the_module left s h) ∙ among_here x s _ eq
@@ -113,9 +114,10 @@ module _ (x : ℕ) (the_module : model.Module) where
   pub met_top : (left s : ℕ) (y : Option ℕ) → 0 < left → (x ≡ s → ⊥) → y ≡ parent the_module s → y ≡ None → among x (chain_from left the_module s) ≡ false
   met_top left s y h ne is top = ap (among x) (chain_top the_module left s y h is top) ∙ among_later x s [] ne ∙ among_none x
 
-  pub met_up : (left s p : ℕ) (y : Option ℕ) → 0 < left → (x ≡ s → ⊥) → y ≡ parent the_module s → y ≡ Some p
-      → among x (chain_from left the_module s) ≡ among x (chain_from (left - 1) the_module p)
-  met_up left s p y h ne is to = ap (among x) (chain_up the_module left s p y h is to) ∙ among_later x s _ ne
+  pub met_up : (left less s p : ℕ) (y : Option ℕ) → 0 < left → less ≡ left - 1 → (x ≡ s → ⊥) → y ≡ parent the_module s → y ≡ Some p
+      → among x (chain_from left the_module s) ≡ among x (chain_from less the_module p)
+  met_up left less s p y h one ne is to =
+      ap (among x) (chain_up the_module left s p y h is to) ∙ among_later x s _ ne ∙ ap (λ n. among x (chain_from n the_module p)) (sym one)
 
   pub met_end : (left s : ℕ) → left ≤ 0 → among x (chain_from left the_module s) ≡ false
   met_end left s h = ap (among x) (chain_end the_module left s h) ∙ among_none x

@@ -16,37 +16,18 @@ ghost use Rattle.model.specs.AtPosition.{turn};
 ghost use Rattle.records.specs.Layout.{scope_row, definition_row, expression_row, module_row, index_of};
 ghost use Rattle.records.specs.Meaning.{name_of, scope_link_of, definition_link_of, expression_link_of};
 ghost use Rattle.records.specs.Meaning.{definition_of, definition_kind_of};
-ghost use Rattle.semantic_index.specs.Meaning.{module_link_of, best_of};
+ghost use Rattle.semantic_index.specs.Meaning.{best_of, FirstInChain};
 
-use records::{
-    Definition, DefinitionIndex, DefinitionKind, DefinitionLink, ExpressionId, ExpressionLink,
-    FileScopeId, FoundExpression, FoundScope, Name, ScopeLink,
-};
-
-// The number of a module, or none.
-#[derive(Clone, Copy)]
-pub enum ModuleLink {
-    Absent,
-    To(u32),
-}
-
-// The best so far in a run through the expressions of a module: its number and the length of its span.
-#[derive(Clone, Copy)]
-enum Best {
-    Absent,
-    Found(u32, u32),
-}
+use records::{Definition, DefinitionIndex, DefinitionKind, ExpressionId, FileScopeId, Name};
 
 // ------------------------------------------------------------------ scopes
 
 // The parent of a scope.
-pub fn parent_scope(words: &[u32], m: u32, s: FileScopeId) -> ScopeLink
+pub fn parent_scope(words: &[u32], m: u32, s: FileScopeId) -> Option<FileScopeId>
     ensures { (file : List ℕ) → scope_link_of result ≡ parent (module_row file words.now m) s.0 }
 {
-    match records::scope_at(words, m, s) {
-        FoundScope::Absent => ScopeLink::Absent,
-        FoundScope::Found(scope) => scope.parent,
-    }
+    let scope = records::scope_at(words, m, s)?;
+    scope.parent
 }
 
 // Whether a scope of the module, whose scopes begin at row `first`, has no parent.
@@ -54,46 +35,38 @@ fn is_root(words: &[u32], first: u32, s: u32) -> bool
     ensures { result ≡ without_parent (scope_row words.now (first + s)) }
 {
     let scope = records::scope_row(words, first, s);
-    let up = scope.parent;
-    match up {
-        ScopeLink::Absent => true,
-        ScopeLink::To(_) => false,
-    }
+    scope.parent.is_none()
 }
 
 // The first scope without a parent.
-pub fn root_scope(words: &[u32], m: u32) -> ScopeLink
+pub fn root_scope(words: &[u32], m: u32) -> Option<FileScopeId>
     ensures { (file : List ℕ) → scope_link_of result ≡ root_scope (module_row file words.now m) }
 {
     let rows = records::rows_of(words, m, records::SCOPE_ROWS);
     let first = rows.first;
     let count = rows.count;
-    let mut s: u32 = 0;
-    while s < count {
+    for s in 0..count {
         if is_root(words, first, s) {
-            return ScopeLink::To(FileScopeId(s));
+            return Some(FileScopeId(s));
         }
-        s += 1;
     }
-    ScopeLink::Absent
+    None
 }
 
 // ------------------------------------------------------------------ modules
 
 // The module of that name; names differ.
-pub fn module_by_name(file: &[u8], words: &[u32], name: Name) -> ModuleLink
-    ensures { module_link_of result
+pub fn module_by_name(file: &[u8], words: &[u32], name: Name) -> Option<u32>
+    ensures { result
         ≡ module_by_name (index_of file.now words.now) (name_of file.now name) }
 {
     let count = records::module_count(words);
-    let mut m: u32 = 0;
-    while m < count {
+    for m in 0..count {
         if names::same_name(file, records::module_name(words, m), name) {
-            return ModuleLink::To(m);
+            return Some(m);
         }
-        m += 1;
     }
-    ModuleLink::Absent
+    None
 }
 
 // ------------------------------------------------------------------ definitions by name
@@ -118,50 +91,62 @@ pub fn latest_definition_index_by_name(
     m: u32,
     s: FileScopeId,
     name: Name,
-) -> DefinitionLink
+) -> Option<DefinitionIndex>
     ensures { definition_link_of result
         ≡ latest_definition_index_by_name (module_row file.now words.now m) s.0
         (name_of file.now name) }
 {
     let rows = records::rows_of(words, m, records::DEFINITION_ROWS);
     let first = rows.first;
-    let mut d = rows.count;
-    while 0 < d {
-        d -= 1;
+    let count = rows.count;
+    for d in (0..count).rev() {
         if is_named(file, words, first, d, s, name) {
-            return DefinitionLink::To(DefinitionIndex(d));
+            return Some(DefinitionIndex(d));
         }
     }
-    DefinitionLink::Absent
+    None
 }
 
-// The same in the first scope that has one, going up the parents. A parent has a lower number, so s + 1 scopes are enough.
+// What `find` finds in the first scope of the chain in which it finds something, going up the parents. A parent has a lower number, so s + 1 scopes are
+// enough.
+fn first_in_chain<F: Fn(FileScopeId) -> Option<DefinitionIndex>>(
+    words: &[u32],
+    m: u32,
+    s: FileScopeId,
+    find: F,
+) -> Option<DefinitionIndex>
+    requires { F.IsAlwaysCallable find }
+    ensures { FirstInChain (F.post find) words.now m s result }
+{
+    let mut current = s;
+    let enough = (s.0 as usize) + 1;
+    for _ in 0..enough {
+        if let Some(d) = find(current) {
+            return Some(d);
+        }
+        current = parent_scope(words, m, current)?;
+    }
+    None
+}
+
+// The scope's last definition of the name, or that of the first scope of the chain that has one.
 pub fn latest_definition_index_by_name_in_chain(
     file: &[u8],
     words: &[u32],
     m: u32,
     s: FileScopeId,
     name: Name,
-) -> DefinitionLink
+) -> Option<DefinitionIndex>
     ensures { definition_link_of result
         ≡ latest_definition_index_by_name_in_chain (module_row file.now words.now m) s.0
         (name_of file.now name) }
 {
-    let mut current = s;
-    let mut left = (s.0 as usize) + 1;
-    while 0 < left {
-        if let DefinitionLink::To(d) = latest_definition_index_by_name(
-            file, words, m, current, name,
-        ) {
-            return DefinitionLink::To(d);
-        }
-        let ScopeLink::To(p) = parent_scope(words, m, current) else {
-            return DefinitionLink::Absent;
-        };
-        current = p;
-        left -= 1;
-    }
-    DefinitionLink::Absent
+    first_in_chain(
+        words,
+        m,
+        s,
+        |scope| latest_definition_index_by_name(file, words, m, scope, name),
+    )
 }
 
 // ------------------------------------------------------------------ definitions by name and position
@@ -170,21 +155,19 @@ pub fn latest_definition_index_by_name_in_chain(
 fn is_top_level_allowed(kind: DefinitionKind) -> bool
     ensures { (file words : List ℕ) → result ≡ is_top_level_allowed (definition_kind_of file words kind) }
 {
-    match kind {
-        DefinitionKind::Function(_, _) | DefinitionKind::Struct(_) | DefinitionKind::Use(_, _) => {
-            true
-        }
-        _ => false,
-    }
+    matches!(
+        kind,
+        DefinitionKind::Function(_, _) | DefinitionKind::Struct(_) | DefinitionKind::Use(_, _)
+    )
 }
 
 // The value of a let.
-fn let_value(kind: DefinitionKind) -> ExpressionLink
+fn let_value(kind: DefinitionKind) -> Option<ExpressionId>
     ensures { (file words : List ℕ) → expression_link_of result ≡ let_value (definition_kind_of file words kind) }
 {
     match kind {
         DefinitionKind::Let(_, e, _, _) => e,
-        _ => ExpressionLink::Absent,
+        _ => None,
     }
 }
 
@@ -193,7 +176,7 @@ fn covers(words: &[u32], m: u32, e: ExpressionId, start: u32, end: u32) -> bool
     ensures { (file : List ℕ) → result
         ≡ covered (expression_at (module_row file words.now m) e.0) start end }
 {
-    let FoundExpression::Found(init) = records::expression_at(words, m, e) else {
+    let Some(init) = records::expression_at(words, m, e) else {
         return false;
     };
     if start < init.start {
@@ -209,7 +192,7 @@ fn in_let_initializer(words: &[u32], m: u32, definition: Definition, start: u32,
         (definition_of file words.now definition) start end }
 {
     let kind = definition.kind;
-    let ExpressionLink::To(e) = let_value(kind) else {
+    let Some(e) = let_value(kind) else {
         return false;
     };
     covers(words, m, e, start, end)
@@ -276,21 +259,20 @@ fn latest_visible_by_name(
     name: Name,
     start: u32,
     end: u32,
-) -> DefinitionLink
+) -> Option<DefinitionIndex>
     ensures { definition_link_of result
         ≡ latest_visible_by_name (module_row file.now words.now m) s.0
         (name_of file.now name) start end }
 {
     let rows = records::rows_of(words, m, records::DEFINITION_ROWS);
     let first = rows.first;
-    let mut d = rows.count;
-    while 0 < d {
-        d -= 1;
+    let count = rows.count;
+    for d in (0..count).rev() {
         if is_named_and_visible(file, words, m, first, d, s, name, start, end) {
-            return DefinitionLink::To(DefinitionIndex(d));
+            return Some(DefinitionIndex(d));
         }
     }
-    DefinitionLink::Absent
+    None
 }
 
 // In the first scope of the chain that has one.
@@ -302,49 +284,42 @@ pub fn resolve_name_at_position(
     s: FileScopeId,
     start: u32,
     end: u32,
-) -> DefinitionLink
+) -> Option<DefinitionIndex>
     ensures { definition_link_of result
         ≡ resolve_name_at_position (module_row file.now words.now m)
         (name_of file.now name) s.0 start end }
 {
-    let mut current_scope = s;
-    let mut left = (s.0 as usize) + 1;
-    while 0 < left {
-        if let DefinitionLink::To(d) = latest_visible_by_name(
-            file,
-            words,
-            m,
-            current_scope,
-            name,
-            start,
-            end,
-        ) {
-            return DefinitionLink::To(d);
-        }
-        let ScopeLink::To(p) = parent_scope(words, m, current_scope) else {
-            return DefinitionLink::Absent;
-        };
-        current_scope = p;
-        left -= 1;
-    }
-    DefinitionLink::Absent
+    first_in_chain(
+        words,
+        m,
+        s,
+        |scope| latest_visible_by_name(file, words, m, scope, name, start, end),
+    )
 }
 
 // The recorded link.
-pub fn definition_for_identifier_expr(words: &[u32], m: u32, e: ExpressionId) -> DefinitionLink
+pub fn definition_for_identifier_expr(
+    words: &[u32],
+    m: u32,
+    e: ExpressionId,
+) -> Option<DefinitionIndex>
     ensures { (file : List ℕ) → definition_link_of result
         ≡ definition_for_identifier_expr (module_row file words.now m) e.0 }
 {
-    match records::expression_at(words, m, e) {
-        FoundExpression::Absent => DefinitionLink::Absent,
-        FoundExpression::Found(expression) => expression.definition,
-    }
+    let expression = records::expression_at(words, m, e)?;
+    expression.definition
 }
 
 // ------------------------------------------------------------------ the expression at a byte
 
 // The best with one expression more, of a module whose expressions begin at row `first`: it takes the place of the best if it covers the byte and is not longer.
-fn shortest_with(words: &[u32], first: u32, e: u32, position: u32, best: Best) -> Best
+fn shortest_with(
+    words: &[u32],
+    first: u32,
+    e: u32,
+    position: u32,
+    best: Option<(u32, u32)>,
+) -> Option<(u32, u32)>
     ensures { (file : List ℕ) → best_of result
         ≡ turn position e (best_of best) (expression_row file words.now (first + e)) }
 {
@@ -358,35 +333,31 @@ fn shortest_with(words: &[u32], first: u32, e: u32, position: u32, best: Best) -
     }
     let span = end - start;
     match best {
-        Best::Absent => Best::Found(e, span),
-        Best::Found(number, least) => {
+        None => Some((e, span)),
+        Some((number, least)) => {
             if least < span {
-                Best::Found(number, least)
+                Some((number, least))
             } else {
-                Best::Found(e, span)
+                Some((e, span))
             }
         }
     }
 }
 
 // The shortest expression of the module that covers the byte, of equally short ones that with the highest number.
-pub fn expression_at_position(words: &[u32], m: u32, position: u32) -> ExpressionLink
+pub fn expression_at_position(words: &[u32], m: u32, position: u32) -> Option<ExpressionId>
     ensures { (file : List ℕ) → expression_link_of result
         ≡ expression_at_position (module_row file words.now m) position }
 {
     let rows = records::rows_of(words, m, records::EXPRESSION_ROWS);
     let first = rows.first;
     let count = rows.count;
-    let mut best = Best::Absent;
-    let mut e: u32 = 0;
-    while e < count {
+    let mut best = None;
+    for e in 0..count {
         best = shortest_with(words, first, e, position, best);
-        e += 1;
     }
-    match best {
-        Best::Absent => ExpressionLink::Absent,
-        Best::Found(number, _) => ExpressionLink::To(ExpressionId(number)),
-    }
+    let (number, _) = best?;
+    Some(ExpressionId(number))
 }
 
 // ------------------------------------------------------------------ the function of a `return`
@@ -394,10 +365,7 @@ pub fn expression_at_position(words: &[u32], m: u32, position: u32) -> Expressio
 fn is_function(kind: DefinitionKind) -> bool
     ensures { (file words : List ℕ) → result ≡ is_function (definition_kind_of file words kind) }
 {
-    match kind {
-        DefinitionKind::Function(_, _) => true,
-        _ => false,
-    }
+    matches!(kind, DefinitionKind::Function(_, _))
 }
 
 // Whether a definition of the module, whose definitions begin at row `first`, is a function.
@@ -410,33 +378,30 @@ fn is_function_row(words: &[u32], first: u32, d: u32) -> bool
 }
 
 // The first function definition whose scope is the given one or an ancestor.
-pub fn first_function_around(words: &[u32], m: u32, s: FileScopeId) -> DefinitionLink
+pub fn first_function_around(words: &[u32], m: u32, s: FileScopeId) -> Option<DefinitionIndex>
     ensures { (file : List ℕ) → definition_link_of result
         ≡ first_function_around (module_row file words.now m) s.0 }
 {
     let rows = records::rows_of(words, m, records::DEFINITION_ROWS);
     let first = rows.first;
     let count = rows.count;
-    let mut found = DefinitionLink::Absent;
-    let mut d: u32 = 0;
-    'definitions: while d < count {
+    let enough = (s.0 as usize) + 1;
+    let mut found = None;
+    'definitions: for d in 0..count {
         if is_function_row(words, first, d) {
             let scope = records::definition_scope(words, first, d);
             let mut at = s;
-            let mut left = (s.0 as usize) + 1;
-            while 0 < left {
+            for _ in 0..enough {
                 if scope.0 == at.0 {
-                    found = DefinitionLink::To(DefinitionIndex(d));
+                    found = Some(DefinitionIndex(d));
                     break 'definitions;
                 }
-                let ScopeLink::To(p) = parent_scope(words, m, at) else {
+                let Some(p) = parent_scope(words, m, at) else {
                     break;
                 };
                 at = p;
-                left -= 1;
             }
         }
-        d += 1;
     }
     found
 }

@@ -17,14 +17,12 @@ pub fn byte_at(bytes: &[u8], i: usize) -> u8
 fn same_bytes(a: &[u8], i: u32, b: &[u8], j: u32, count: u32) -> bool
     ensures { result ≡ eq_numbers (bytes_at a.now i count) (bytes_at b.now j count) }
 {
-    let mut k: u32 = 0;
-    while k < count {
+    for k in 0..count {
         let left = byte_at(a, (i as usize) + (k as usize));
         let right = byte_at(b, (j as usize) + (k as usize));
         if left != right {
             return false;
         }
-        k += 1;
     }
     true
 }

@@ -37,69 +37,60 @@ use Rattle.records.specs.Meaning.{scope_link_of, type_link_of, definition_link_o
 use Rattle.records.specs.declared.FileScopeId.{FileScopeId}
 use Rattle.records.specs.declared.DefinitionIndex.{DefinitionIndex}
 use Rattle.records.specs.declared.ExpressionId.{ExpressionId}
-use Rattle.records.specs.declared.ScopeLink.{ScopeLink}
-use Rattle.records.specs.declared.TypeLink.{TypeLink}
-use Rattle.records.specs.declared.DefinitionLink.{DefinitionLink}
-use Rattle.records.specs.declared.ExpressionLink.{ExpressionLink}
-use Rattle.records.specs.declared.FoundTypeExpr.{FoundTypeExpr}
 use Rattle.records.specs.declared.TypeExpr.{TypeExpr as DeclaredTypeExpr}
-use Rattle.records.specs.declared.FoundDefinition.{FoundDefinition}
 use Rattle.records.specs.declared.Definition.{Definition as DeclaredDefinition}
-use Rattle.records.specs.declared.FoundExpression.{FoundExpression}
 use Rattle.records.specs.declared.ExpressionInfo.{ExpressionInfo as DeclaredInfo}
-use Rattle.semantic_index.specs.Meaning.{module_link_of}
-use Rattle.semantic_index.specs.declared.ModuleLink.{ModuleLink}
 use Rattle.views.specs.Reads.{argument_definition, field_type_expr, imported_definition, identifier_definition}
 
 -- ------------------------------------------------------------------ what was found
 
-module _ (file words : List ℕ) (r : FoundTypeExpr) (o : Option TypeExpr) (is : found_type_expr_of file words r ≡ o) where
-  pub no_type_expr : r ≡ FoundTypeExpr.Absent → o ≡ None
+module _ (file words : List ℕ) (r : Option DeclaredTypeExpr) (o : Option TypeExpr) (is : found_type_expr_of file words r ≡ o) where
+  pub no_type_expr : r ≡ None → o ≡ None
   no_type_expr h = sym is ∙ ap (found_type_expr_of file words) h
 
-  pub a_type_expr : (x : DeclaredTypeExpr) → r ≡ FoundTypeExpr.Found x → o ≡ Some (type_expr_of file words x)
+  pub a_type_expr : (x : DeclaredTypeExpr) → r ≡ Some x → o ≡ Some (type_expr_of file words x)
   a_type_expr x h = sym is ∙ ap (found_type_expr_of file words) h
 
-module _ (file words : List ℕ) (r : FoundDefinition) (o : Option Definition) (is : found_definition_of file words r ≡ o) where
-  pub no_definition : r ≡ FoundDefinition.Absent → o ≡ None
+module _ (file words : List ℕ) (r : Option DeclaredDefinition) (o : Option Definition) (is : found_definition_of file words r ≡ o) where
+  pub no_definition : r ≡ None → o ≡ None
   no_definition h = sym is ∙ ap (found_definition_of file words) h
 
-  pub a_definition : (x : DeclaredDefinition) → r ≡ FoundDefinition.Found x → o ≡ Some (definition_of file words x)
+  pub a_definition : (x : DeclaredDefinition) → r ≡ Some x → o ≡ Some (definition_of file words x)
   a_definition x h = sym is ∙ ap (found_definition_of file words) h
 
-module _ (file words : List ℕ) (r : FoundExpression) (o : Option ExpressionInfo) (is : found_expression_of file words r ≡ o) where
-  pub no_expression : r ≡ FoundExpression.Absent → o ≡ None
+module _ (file words : List ℕ) (r : Option DeclaredInfo) (o : Option ExpressionInfo) (is : found_expression_of file words r ≡ o) where
+  pub no_expression : r ≡ None → o ≡ None
   no_expression h = sym is ∙ ap (found_expression_of file words) h
 
-  pub an_expression : (x : DeclaredInfo) → r ≡ FoundExpression.Found x → o ≡ Some (info_of file words x)
+  pub an_expression : (x : DeclaredInfo) → r ≡ Some x → o ≡ Some (info_of file words x)
   an_expression x h = sym is ∙ ap (found_expression_of file words) h
 
-module _ (r : ModuleLink) (o : Option ℕ) (is : module_link_of r ≡ o) where
-  pub no_module : r ≡ ModuleLink.Absent → o ≡ None
-  no_module h = sym is ∙ ap module_link_of h
+module _ (r : Option ℕ) (o : Option ℕ) (is : r ≡ o) where
+  pub no_module : r ≡ None → o ≡ None
+  no_module h = sym is ∙ h
 
-  pub to_module : (m : ℕ) → r ≡ ModuleLink.To m → o ≡ Some m
-  to_module m h = sym is ∙ ap module_link_of h
+  pub to_module : (m : ℕ) → r ≡ Some m → o ≡ Some m
+  to_module m h = sym is ∙ h
 
-module _ (r : ScopeLink) (o : Option ℕ) (is : scope_link_of r ≡ o) where
-  pub no_scope : r ≡ ScopeLink.Absent → o ≡ None
+module _ (r : Option FileScopeId) (o : Option ℕ) (is : scope_link_of r ≡ o) where
+  pub no_scope : r ≡ None → o ≡ None
   no_scope h = sym is ∙ ap scope_link_of h
 
-  pub to_scope : (s : FileScopeId) → r ≡ ScopeLink.To s → o ≡ Some s.0
+  pub to_scope : (s : FileScopeId) → r ≡ Some s → o ≡ Some s.0
   to_scope s h = sym is ∙ ap scope_link_of h
 
-module _ (r : DefinitionLink) (o : Option ℕ) (is : definition_link_of r ≡ o) where
-  pub no_link : r ≡ DefinitionLink.Absent → o ≡ None
+module _ (r : Option DefinitionIndex) (o : Option ℕ) (is : definition_link_of r ≡ o) where
+  pub no_link : r ≡ None → o ≡ None
   no_link h = sym is ∙ ap definition_link_of h
 
-  pub to_definition : (d : DefinitionIndex) → r ≡ DefinitionLink.To d → o ≡ Some d.0
+  pub to_definition : (d : DefinitionIndex) → r ≡ Some d → o ≡ Some d.0
   to_definition d h = sym is ∙ ap definition_link_of h
 
-module _ (r : TypeLink) (o : Option ℕ) (is : type_link_of r ≡ o) where
-  pub no_type : r ≡ TypeLink.Absent → o ≡ None
+module _ (r : Option ℕ) (o : Option ℕ) (is : type_link_of r ≡ o) where
+  pub no_type : r ≡ None → o ≡ None
   no_type h = sym is ∙ ap type_link_of h
 
-  pub to_type : (t : ℕ) → r ≡ TypeLink.To t → o ≡ Some t
+  pub to_type : (t : ℕ) → r ≡ Some t → o ≡ Some t
   to_type t h = sym is ∙ ap type_link_of h
 
 -- ------------------------------------------------------------------ types and operands
@@ -140,12 +131,12 @@ module _ (the_module : Module) (op : BinaryOp) (left right : ℕ) (b : Bool) (is
 
 -- ------------------------------------------------------------------ calls
 
-module _ (the_module : Module) (callee : ExpressionLink) where
-  pub callee_absent : callee ≡ ExpressionLink.Absent → false ≡ callee_is_builtin the_module (expression_link_of callee)
+module _ (the_module : Module) (callee : Option ExpressionId) where
+  pub callee_absent : callee ≡ None → false ≡ callee_is_builtin the_module (expression_link_of callee)
   unfolding callee_is_builtin
   callee_absent h = rw h
 
-  module _ (x : ExpressionId) (to : callee ≡ ExpressionLink.To x) where
+  module _ (x : ExpressionId) (to : callee ≡ Some x) where
     pub callee_lost : expression_at the_module x.0 ≡ None → false ≡ callee_is_builtin the_module (expression_link_of callee)
     unfolding callee_is_builtin
     callee_lost h = rw (to, h)
@@ -245,13 +236,13 @@ module _ (index : Index) (imported_module item : Name) where
         unfolding imported_definition
         import_found d h = rw (to, at, root, h)
 
-module _ (the_module : Module) (definition : DefinitionLink) (name : Name) (s start end : ℕ) where
-  pub identifier_recorded : (d : DefinitionIndex) → definition ≡ DefinitionLink.To d
+module _ (the_module : Module) (definition : Option DefinitionIndex) (name : Name) (s start end : ℕ) where
+  pub identifier_recorded : (d : DefinitionIndex) → definition ≡ Some d
       → Some d.0 ≡ identifier_definition the_module (definition_link_of definition) name s start end
   unfolding identifier_definition
   identifier_recorded d h = rw h
 
-  pub identifier_by_name : (o : Option ℕ) → definition ≡ DefinitionLink.Absent → o ≡ resolve_name_at_position the_module name s start end
+  pub identifier_by_name : (o : Option ℕ) → definition ≡ None → o ≡ resolve_name_at_position the_module name s start end
       → o ≡ identifier_definition the_module (definition_link_of definition) name s start end
   unfolding identifier_definition
   identifier_by_name o h e = rw h e

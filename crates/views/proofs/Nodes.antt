@@ -1,9 +1,9 @@
 -- The kinds that an arm of a `match` has, by their numbers: what holds of each. Assumes nothing.
-use mathlib.Core.Path.{◌≡◌, refl}
-use mathlib.Core.Bool.{true, false}
+use mathlib.Core.Path.{◌≡◌, refl, sym}
+use mathlib.Core.Bool.{Bool, true, false, not, false≢true}
 use Prim.Native.Nat.{ℕ}
 use mathlib.Core.List.{List, [], ◌∷◌}
-use Rattle.std.specs.Prelude.{Option, None, Some}
+use Rattle.std.specs.Prelude.{Option, None, Some, is_some}
 use types.Run.{miss}
 use borrow.Enum.Refused.{Among, opened}
 use denote.Enum.Declared.{tag_of}
@@ -14,7 +14,6 @@ use Rattle.resolution.specs.Types.{field_type}
 use Rattle.records.specs.Meaning.{name_of, names_with_types_of, type_expr_of, definition_kind_of, binary_op_of, expression_of}
 use Rattle.records.specs.declared.Name.{Name as DeclaredName}
 use Rattle.records.specs.declared.Items.{Items}
-use Rattle.records.specs.declared.Suffix.{Suffix}
 use Rattle.records.specs.declared.TypeExpr.{TypeExpr}
 use Rattle.records.specs.declared.DefinitionKind.{DefinitionKind}
 use Rattle.records.specs.declared.BinaryOp.{BinaryOp}
@@ -144,13 +143,13 @@ other_than_struct_literal file words (Expression.Parenthesized e) h = refl
 
 -- a node of a known kind
 module _ (file words : List ℕ) (node : Expression) where
-  pub unsuffixed : (s : Suffix) → node ≡ Expression.Literal s → s ≡ Suffix.Absent → true ≡ is_unsuffixed_literal (expression_of file words node)
+  -- a literal is unsuffixed if its suffix is absent
+  pub suffix_decides : (s : Option DeclaredName) (b : Bool) → node ≡ Expression.Literal s → is_some s ≡ not b → b ≡ is_unsuffixed_literal (expression_of file words node)
   unfolding is_unsuffixed_literal
-  unsuffixed s h e = rw (h, e)
-
-  pub suffixed : (s : Suffix) (n : DeclaredName) → node ≡ Expression.Literal s → s ≡ Suffix.Named n → false ≡ is_unsuffixed_literal (expression_of file words node)
-  unfolding is_unsuffixed_literal
-  suffixed s n h e = rw (h, e)
+  suffix_decides None true h e = rw h
+  suffix_decides None false h e = absurd (false≢true e)
+  suffix_decides (Some n) true h e = absurd (false≢true (sym e))
+  suffix_decides (Some n) false h e = rw h
 
   pub an_identifier : (n : DeclaredName) → node ≡ Expression.Identifier n → as_identifier (expression_of file words node) ≡ Some (name_of file n)
   unfolding as_identifier

@@ -18,65 +18,42 @@ ghost use Rattle.views.specs.Promises.{ArgumentDefinition, FieldTypeExpr, Import
 ghost use Rattle.views.specs.Promises.{PositionExpression};
 
 use records::{
-    BinaryOp, DefinitionIndex, DefinitionKind, DefinitionLink, Expression, ExpressionId,
-    ExpressionLink, FileScopeId, FoundDefinition, FoundExpression, FoundTypeExpr, Items, Name,
-    Question, ScopeLink, Suffix, TypeExpr, TypeLink,
+    BinaryOp, DefinitionIndex, DefinitionKind, Expression, ExpressionId, FileScopeId, Items, Name,
+    Question, TypeExpr,
 };
-use semantic_index::ModuleLink;
 
 // What an answer line is about: module, expression, context; module, definition; module, T, scope; module, position.
 #[derive(Clone, Copy)]
 pub enum Asked {
-    Expr(u32, ExpressionId, TypeLink),
+    Expr(u32, ExpressionId, Option<u32>),
     Def(u32, DefinitionIndex),
     Type(u32, u32, FileScopeId),
     At(u32, u32),
 }
 
-// What a question asks at a line's number.
-#[derive(Clone, Copy)]
-pub enum FoundAsked {
-    Past,
-    Found(Asked),
-}
-
-// The T of a struct literal's field and the scope of the literal, or none.
-#[derive(Clone, Copy)]
-pub enum FoundFieldType {
-    Absent,
-    Found(u32, FileScopeId),
-}
-
-// A definition of another module: the module's number, and the definition's there; or none.
-#[derive(Clone, Copy)]
-pub enum FoundImport {
-    Absent,
-    Found(u32, DefinitionIndex),
-}
-
 // ------------------------------------------------------------------ what a question asks
 
 // What a question asks at a number: each asks one thing, and has one line.
-pub fn asked_at(question: Question, line: u32) -> FoundAsked
+pub fn asked_at(question: Question, line: u32) -> Option<Asked>
     ensures { (index : Index) → found_asked_of result ≡ slice_get (question_asked index (question_of question)) line }
 {
     if line > 0 {
-        return FoundAsked::Past;
+        return None;
     }
     match question {
-        Question::Expr(m, e, context) => FoundAsked::Found(Asked::Expr(m, e, context)),
-        Question::Def(m, d) => FoundAsked::Found(Asked::Def(m, d)),
-        Question::Type(m, t, s) => FoundAsked::Found(Asked::Type(m, t, s)),
-        Question::At(m, position) => FoundAsked::Found(Asked::At(m, position)),
+        Question::Expr(m, e, context) => Some(Asked::Expr(m, e, context)),
+        Question::Def(m, d) => Some(Asked::Def(m, d)),
+        Question::Type(m, t, s) => Some(Asked::Type(m, t, s)),
+        Question::At(m, position) => Some(Asked::At(m, position)),
     }
 }
 
 // The expression at a byte of a module, by its number; none too where there is no such module.
-pub fn position_expression(words: &[u32], m: u32, position: u32) -> ExpressionLink
+pub fn position_expression(words: &[u32], m: u32, position: u32) -> Option<ExpressionId>
     ensures { PositionExpression words.now m position result }
 {
     if !records::has_module(words, m) {
-        return ExpressionLink::Absent;
+        return None;
     }
     semantic_index::expression_at_position(words, m, position)
 }
@@ -86,17 +63,14 @@ pub fn position_expression(words: &[u32], m: u32, position: u32) -> ExpressionLi
 fn is_array_expr(t: TypeExpr) -> bool
     ensures { (file words : List ℕ) → result ≡ is_array_expr (type_expr_of file words t) }
 {
-    match t {
-        TypeExpr::FixedArray(_, _) => true,
-        _ => false,
-    }
+    matches!(t, TypeExpr::FixedArray(_, _))
 }
 
 // `matches!(element_type.value(), AstTypeExpr::FixedArray { .. })`, by the T's number.
 pub fn names_array_expr(words: &[u32], m: u32, t: u32) -> bool
     ensures { NamesArrayExpr words.now m t result }
 {
-    let FoundTypeExpr::Found(type_expr) = records::type_expr_at(words, m, t) else {
+    let Some(type_expr) = records::type_expr_at(words, m, t) else {
         return false;
     };
     is_array_expr(type_expr)
@@ -109,10 +83,7 @@ pub fn is_unsuffixed_literal(node: Expression) -> bool
     let Expression::Literal(suffix) = node else {
         return false;
     };
-    match suffix {
-        Suffix::Absent => true,
-        Suffix::Named(_) => false,
-    }
+    suffix.is_none()
 }
 
 // ------------------------------------------------------------------ operators
@@ -120,16 +91,16 @@ pub fn is_unsuffixed_literal(node: Expression) -> bool
 fn is_commutative(op: BinaryOp) -> bool
     ensures { result ≡ is_commutative (binary_op_of op) }
 {
-    match op {
-        BinaryOp::Add | BinaryOp::Mul | BinaryOp::Eq | BinaryOp::Neq => true,
-        _ => false,
-    }
+    matches!(
+        op,
+        BinaryOp::Add | BinaryOp::Mul | BinaryOp::Eq | BinaryOp::Neq
+    )
 }
 
 fn operand_is_unsuffixed_literal(words: &[u32], m: u32, e: ExpressionId) -> bool
     ensures { (file : List ℕ) → result ≡ operand_is_unsuffixed_literal (module_row file words.now m) e.0 }
 {
-    let FoundExpression::Found(operand) = records::expression_at(words, m, e) else {
+    let Some(operand) = records::expression_at(words, m, e) else {
         return false;
     };
     let node = operand.node;
@@ -158,13 +129,13 @@ pub fn right_first(
 // ------------------------------------------------------------------ calls
 
 // Whether the callee is the built-in `assert`; a missing callee is no identifier.
-pub fn callee_is_builtin(file: &[u8], words: &[u32], m: u32, callee: ExpressionLink) -> bool
+pub fn callee_is_builtin(file: &[u8], words: &[u32], m: u32, callee: Option<ExpressionId>) -> bool
     ensures { CalleeIsBuiltin file.now words.now m callee result }
 {
-    let ExpressionLink::To(callee_id) = callee else {
+    let Some(callee_id) = callee else {
         return false;
     };
-    let FoundExpression::Found(callee_info) = records::expression_at(words, m, callee_id) else {
+    let Some(callee_info) = records::expression_at(words, m, callee_id) else {
         return false;
     };
     let node = callee_info.node;
@@ -175,15 +146,13 @@ pub fn callee_is_builtin(file: &[u8], words: &[u32], m: u32, callee: ExpressionL
 }
 
 // The definition that the callee of an argument records, if the callee is an identifier.
-pub fn argument_definition(words: &[u32], m: u32, callee: ExpressionId) -> DefinitionLink
+pub fn argument_definition(words: &[u32], m: u32, callee: ExpressionId) -> Option<DefinitionIndex>
     ensures { ArgumentDefinition words.now m callee result }
 {
-    let FoundExpression::Found(callee_info) = records::expression_at(words, m, callee) else {
-        return DefinitionLink::Absent;
-    };
+    let callee_info = records::expression_at(words, m, callee)?;
     let node = callee_info.node;
     let Expression::Identifier(_) = node else {
-        return DefinitionLink::Absent;
+        return None;
     };
     semantic_index::definition_for_identifier_expr(words, m, callee)
 }
@@ -191,32 +160,30 @@ pub fn argument_definition(words: &[u32], m: u32, callee: ExpressionId) -> Defin
 // ------------------------------------------------------------------ fields
 
 // The t of the first field of that name.
-fn field_type(file: &[u8], words: &[u32], fields: Items, name: Name) -> TypeLink
+fn field_type(file: &[u8], words: &[u32], fields: Items, name: Name) -> Option<u32>
     ensures { type_link_of result
         ≡ field_type (names_with_types_of file.now words.now fields)
         (name_of file.now name) }
 {
     let first = fields.first;
     let count = fields.count;
-    let mut i: u32 = 0;
-    while i < count {
+    for i in 0..count {
         if semantic_index::names::same_name(file, records::item_name(words, first, i), name) {
-            return TypeLink::To(records::item_value(words, first, i));
+            return Some(records::item_value(words, first, i));
         }
-        i += 1;
     }
-    TypeLink::Absent
+    None
 }
 
 // The t of a struct definition's field.
-fn struct_field(file: &[u8], words: &[u32], kind: DefinitionKind, name: Name) -> TypeLink
+fn struct_field(file: &[u8], words: &[u32], kind: DefinitionKind, name: Name) -> Option<u32>
     ensures { type_link_of result
         ≡ struct_field (definition_kind_of file.now words.now kind)
         (name_of file.now name) }
 {
     match kind {
         DefinitionKind::Struct(fields) => field_type(file, words, fields, name),
-        _ => TypeLink::Absent,
+        _ => None,
     }
 }
 
@@ -227,30 +194,20 @@ pub fn field_type_expr(
     m: u32,
     parent: ExpressionId,
     field: Name,
-) -> FoundFieldType
+) -> Option<(u32, FileScopeId)>
     ensures { FieldTypeExpr file.now words.now m parent field result }
 {
-    let FoundExpression::Found(parent_info) = records::expression_at(words, m, parent) else {
-        return FoundFieldType::Absent;
-    };
+    let parent_info = records::expression_at(words, m, parent)?;
     let scope = parent_info.scope;
     let node = parent_info.node;
     let Expression::StructLiteral(name, start, end) = node else {
-        return FoundFieldType::Absent;
+        return None;
     };
-    let DefinitionLink::To(d) = semantic_index::resolve_name_at_position(
-        file, words, m, name, scope, start, end,
-    ) else {
-        return FoundFieldType::Absent;
-    };
-    let FoundDefinition::Found(definition) = records::definition_at(words, m, d) else {
-        return FoundFieldType::Absent;
-    };
+    let d = semantic_index::resolve_name_at_position(file, words, m, name, scope, start, end)?;
+    let definition = records::definition_at(words, m, d)?;
     let kind = definition.kind;
-    let TypeLink::To(t) = struct_field(file, words, kind, field) else {
-        return FoundFieldType::Absent;
-    };
-    FoundFieldType::Found(t, scope)
+    let t = struct_field(file, words, kind, field)?;
+    Some((t, scope))
 }
 
 // ------------------------------------------------------------------ definitions behind a name
@@ -261,29 +218,22 @@ pub fn imported_definition(
     words: &[u32],
     imported_module: Name,
     item: Name,
-) -> FoundImport
+) -> Option<(u32, DefinitionIndex)>
     ensures { ImportedDefinition file.now words.now imported_module item result }
 {
-    let ModuleLink::To(imported) = semantic_index::module_by_name(file, words, imported_module)
-    else {
-        return FoundImport::Absent;
-    };
+    let imported = semantic_index::module_by_name(file, words, imported_module)?;
     if !records::has_module(words, imported) {
-        return FoundImport::Absent;
+        return None;
     }
-    let ScopeLink::To(imported_root) = semantic_index::root_scope(words, imported) else {
-        return FoundImport::Absent;
-    };
-    let DefinitionLink::To(d) = semantic_index::latest_definition_index_by_name(
+    let imported_root = semantic_index::root_scope(words, imported)?;
+    let d = semantic_index::latest_definition_index_by_name(
         file,
         words,
         imported,
         imported_root,
         item,
-    ) else {
-        return FoundImport::Absent;
-    };
-    FoundImport::Found(imported, d)
+    )?;
+    Some((imported, d))
 }
 
 // The definition that an identifier records; else the name at its position.
@@ -291,17 +241,17 @@ pub fn identifier_definition(
     file: &[u8],
     words: &[u32],
     m: u32,
-    definition: DefinitionLink,
+    definition: Option<DefinitionIndex>,
     scope: FileScopeId,
     start: u32,
     end: u32,
     name: Name,
-) -> DefinitionLink
+) -> Option<DefinitionIndex>
     ensures { IdentifierDefinition file.now words.now m definition scope start end name result }
 {
     match definition {
-        DefinitionLink::To(d) => DefinitionLink::To(d),
-        DefinitionLink::Absent => {
+        Some(d) => Some(d),
+        None => {
             semantic_index::resolve_name_at_position(file, words, m, name, scope, start, end)
         }
     }

@@ -9,4 +9,4 @@ pub returns-then-expressions-e : goal.returns-then-expressions-e
 returns-then-expressions-e c = λ file. context_no_expression file _ _ c.has_module.result (c.has_module.ensures file) _ _ _ c.if-not-has_module.false (c.expression_count-expressions.ensures file) c.if-expressions-e.true
 
 pub returns : goal.returns
-returns c = λ file. context_tested file _ _ c.has_module.result (c.has_module.ensures file) _ _ _ _ _ c.if-not-has_module.false (c.expression_count-expressions.ensures file) c.if-expressions-e.false (c.type_expr_count-types.ensures file) c.type_link_below.ensures
+returns c = λ file. context_tested file _ _ c.has_module.result (c.has_module.ensures file) _ _ _ _ _ c.if-not-has_module.false (c.expression_count-expressions.ensures file) c.if-expressions-e.false (c.type_expr_count-types.ensures file) c.link_below.ensures

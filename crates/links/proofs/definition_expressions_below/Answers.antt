@@ -22,7 +22,7 @@ returns-in-Struct c = λ file words. ap (test _ file words) (sym c.in-Struct.is)
 
 pub returns-in-Const : goal.returns-in-Const
 unfolding all_below definition_expressions
-returns-in-Const c = λ file words. c.expression_link_below.ensures ∙ ap (test _ file words) (sym c.in-Const.is)
+returns-in-Const c = λ file words. c.link_below.ensures ∙ ap (test _ file words) (sym c.in-Const.is)
 
 pub returns-in-Let : goal.returns-in-Let
 unfolding all_below definition_expressions

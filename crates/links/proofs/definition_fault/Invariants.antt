@@ -1,5 +1,5 @@
 -- `links::definition_fault` meets its contract: the rows that are left decide the whole. Assumes nothing.
-use Prim.Native.Nat.{ℕ, ◌-◌}
+use Prim.Native.Nat.{ℕ}
 use mathlib.Core.Bool.{not}
 use mathlib.Core.List.{List, map}
 use mathlib.Core.Path.{◌≡◌}
@@ -11,6 +11,3 @@ use Rattle.links.proofs.definition_fault.Given as goal
 
 abbrev pub invariant-loop-d : goal.invariant-loop-d
 invariant-loop-d l = (file : List ℕ) → first not (map (definition_linked (module_row file l.words l.m)) (module_row file l.words l.m).definitions) ≡ row_fault (λ k. definition_linked (module_row file l.words l.m)) (definition_row file l.words) l.begin l.count l.d
-
-abbrev pub decreases-loop-d : goal.decreases-loop-d
-decreases-loop-d l = l.count - l.d

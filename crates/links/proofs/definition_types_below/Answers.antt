@@ -28,11 +28,11 @@ returns-in-Struct c = λ file. c.numbers_below-in-Struct.ensures ∙ ap (all_bel
 
 pub returns-in-Const : goal.returns-in-Const
 unfolding definition_types
-returns-in-Const c = λ file. c.type_link_below.ensures ∙ ap (test _ file _) (sym c.in-Const.is)
+returns-in-Const c = λ file. c.link_below.ensures ∙ ap (test _ file _) (sym c.in-Const.is)
 
 pub returns-in-Let : goal.returns-in-Let
 unfolding definition_types
-returns-in-Let c = λ file. c.type_link_below-in-Let.ensures ∙ ap (test _ file _) (sym c.in-Let.is)
+returns-in-Let c = λ file. c.link_below-in-Let.ensures ∙ ap (test _ file _) (sym c.in-Let.is)
 
 pub returns-in-Parameter : goal.returns-in-Parameter
 unfolding definition_types

@@ -13,9 +13,9 @@ use Rattle.links.proofs.node_expressions_below.Goals as goal
 abbrev test : ℕ → List ℕ → List ℕ → Expression → Bool
 test n file words node = all_below n (node_expressions (expression_of file words node))
 
-pub returns-then-not-expression_link_below : goal.returns-then-not-expression_link_below
+pub returns-then-not-link_below : goal.returns-then-not-link_below
 unfolding node_expressions
-returns-then-not-expression_link_below c = λ file. parts_stop _ _ _ _ c.expression_link_below-in-FunctionCall.ensures c.if-not-expression_link_below.true ∙ ap (test _ file _) (sym c.in-FunctionCall.is)
+returns-then-not-link_below c = λ file. parts_stop _ _ _ _ c.link_below-in-FunctionCall.ensures c.if-not-link_below.true ∙ ap (test _ file _) (sym c.in-FunctionCall.is)
 
 pub returns-in-Literal : goal.returns-in-Literal
 unfolding node_expressions all_below
@@ -31,19 +31,19 @@ returns-in-Identifier c = λ file. ap (test _ file _) (sym c.in-Identifier.is)
 
 pub returns-in-Unary : goal.returns-in-Unary
 unfolding node_expressions
-returns-in-Unary c = λ file. c.expression_link_below.ensures ∙ ap (test _ file _) (sym c.in-Unary.is)
+returns-in-Unary c = λ file. c.link_below.ensures ∙ ap (test _ file _) (sym c.in-Unary.is)
 
 pub returns-in-Binary : goal.returns-in-Binary
 unfolding node_expressions
 returns-in-Binary c = λ file. c.both_below.ensures ∙ ap (test _ file _) (sym c.in-Binary.is)
 
-pub returns-else-not-expression_link_below : goal.returns-else-not-expression_link_below
+pub returns-else-not-link_below : goal.returns-else-not-link_below
 unfolding node_expressions
-returns-else-not-expression_link_below c = λ file. parts_go _ _ _ _ c.expression_link_below-in-FunctionCall.ensures _ c.if-not-expression_link_below.false c.links_below.ensures ∙ ap (test _ file _) (sym c.in-FunctionCall.is)
+returns-else-not-link_below c = λ file. parts_go _ _ _ _ c.link_below-in-FunctionCall.ensures _ c.if-not-link_below.false c.links_below.ensures ∙ ap (test _ file _) (sym c.in-FunctionCall.is)
 
 pub returns-in-MemberAccess : goal.returns-in-MemberAccess
 unfolding node_expressions
-returns-in-MemberAccess c = λ file. c.expression_link_below-in-MemberAccess.ensures ∙ ap (test _ file _) (sym c.in-MemberAccess.is)
+returns-in-MemberAccess c = λ file. c.link_below-in-MemberAccess.ensures ∙ ap (test _ file _) (sym c.in-MemberAccess.is)
 
 pub returns-in-IndexAccess : goal.returns-in-IndexAccess
 unfolding node_expressions
@@ -59,7 +59,7 @@ returns-in-Tuple c = λ file. c.links_below-in-Tuple.ensures ∙ ap (test _ file
 
 pub returns-in-TupleIndex : goal.returns-in-TupleIndex
 unfolding node_expressions
-returns-in-TupleIndex c = λ file. c.expression_link_below-in-TupleIndex.ensures ∙ ap (test _ file _) (sym c.in-TupleIndex.is)
+returns-in-TupleIndex c = λ file. c.link_below-in-TupleIndex.ensures ∙ ap (test _ file _) (sym c.in-TupleIndex.is)
 
 pub returns-in-ArrayLiteral : goal.returns-in-ArrayLiteral
 unfolding node_expressions
@@ -67,7 +67,7 @@ returns-in-ArrayLiteral c = λ file. c.links_below-in-ArrayLiteral.ensures ∙ a
 
 pub returns-in-ArrayRepeat : goal.returns-in-ArrayRepeat
 unfolding node_expressions
-returns-in-ArrayRepeat c = λ file. c.expression_link_below-in-ArrayRepeat.ensures ∙ ap (test _ file _) (sym c.in-ArrayRepeat.is)
+returns-in-ArrayRepeat c = λ file. c.link_below-in-ArrayRepeat.ensures ∙ ap (test _ file _) (sym c.in-ArrayRepeat.is)
 
 pub returns-in-Cast : goal.returns-in-Cast
 unfolding node_expressions all_below
@@ -75,8 +75,8 @@ returns-in-Cast c = λ file. ap (test _ file _) (sym c.in-Cast.is)
 
 pub returns-in-New : goal.returns-in-New
 unfolding node_expressions
-returns-in-New c = λ file. c.expression_link_below-in-New.ensures ∙ ap (test _ file _) (sym c.in-New.is)
+returns-in-New c = λ file. c.link_below-in-New.ensures ∙ ap (test _ file _) (sym c.in-New.is)
 
 pub returns-in-Parenthesized : goal.returns-in-Parenthesized
 unfolding node_expressions
-returns-in-Parenthesized c = λ file. c.expression_link_below-in-Parenthesized.ensures ∙ ap (test _ file _) (sym c.in-Parenthesized.is)
+returns-in-Parenthesized c = λ file. c.link_below-in-Parenthesized.ensures ∙ ap (test _ file _) (sym c.in-Parenthesized.is)

@@ -1,5 +1,5 @@
 -- `links::scope_fault` meets its contract: the rows that are left decide the whole. Assumes nothing.
-use Prim.Native.Nat.{ℕ, ◌-◌}
+use Prim.Native.Nat.{ℕ}
 use mathlib.Core.Bool.{not}
 use mathlib.Core.List.{List}
 use mathlib.Core.Path.{◌≡◌}
@@ -11,6 +11,3 @@ use Rattle.links.proofs.scope_fault.Given as goal
 
 abbrev pub invariant-loop-s : goal.invariant-loop-s
 invariant-loop-s l = (file : List ℕ) → first not (map_from scope_linked 0 (module_row file l.words l.m).scopes) ≡ row_fault scope_linked (scope_row l.words) l.begin l.count l.s
-
-abbrev pub decreases-loop-s : goal.decreases-loop-s
-decreases-loop-s l = l.count - l.s

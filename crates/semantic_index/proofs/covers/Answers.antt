@@ -6,7 +6,7 @@ pub returns-in_default : goal.returns-in_default
 returns-in_default c = λ file. covered_absent file _ _ _ (c.expression_at.ensures file) _ _ c.in_default.is
 
 pub returns-then-start-init : goal.returns-then-start-init
-returns-then-start-init c = λ file. covered_before file _ _ _ (c.expression_at.ensures file) _ _ _ c.in-Found.is c.if-start-init.true
+returns-then-start-init c = λ file. covered_before file _ _ _ (c.expression_at.ensures file) _ _ _ c.in-Some.is c.if-start-init.true
 
 pub returns : goal.returns
-returns c = λ file. covered_end file _ _ _ (c.expression_at.ensures file) _ _ _ c.in-Found.is c.if-start-init.false
+returns c = λ file. covered_end file _ _ _ (c.expression_at.ensures file) _ _ _ c.in-Some.is c.if-start-init.false

@@ -3,6 +3,7 @@
 use native.Mathlib.Omega.{arith}
 use mathlib.Core.Path.{sym, ap, ◌∙◌}
 use Rattle.model.specs.AtPosition.{best_number}
+use Rattle.records.specs.Meaning.{expression_link_of}
 use Rattle.semantic_index.specs.Meaning.{best_of}
 use Rattle.semantic_index.proofs.AtPosition.{rows_start, rows_turn, rows_end}
 use Rattle.semantic_index.proofs.expression_at_position.Goals as goal
@@ -15,18 +16,19 @@ loop-e-preserved c =
     let inv = c.loop-e.invariant in
     ((λ file. rows_turn file _ _ _ _ _ _ (inv.0 file) (c.shortest_with-best.ensures file)), omega (arith, c.loop-e-test.true))
 
-pub returns-in-Absent : goal.returns-in-Absent
-returns-in-Absent c =
+pub returns-in_err-number : goal.returns-in_err-number
+returns-in_err-number c =
     let inv = c.loop-e.invariant in
     let rows = c.rows_of-rows.ensures in
     λ file.
-    ap (λ b. best_number (best_of b)) (sym c.in-Absent.is)
+    ap expression_link_of c.from_residual.ensures
+    ∙ ap (λ b. best_number (best_of b)) (sym c.in_err-number.was)
     ∙ rows_end file _ _ _ _ _ rows.begins rows.counts _ (best_of c.loop-e.best) (inv.0 file) inv.1 c.loop-e-test.false
 
-pub returns-in-Found : goal.returns-in-Found
-returns-in-Found c =
+pub returns : goal.returns
+returns c =
     let inv = c.loop-e.invariant in
     let rows = c.rows_of-rows.ensures in
     λ file.
-    ap (λ b. best_number (best_of b)) (sym c.in-Found.is)
+    ap (λ b. best_number (best_of b)) (sym c.in_ok-number.was)
     ∙ rows_end file _ _ _ _ _ rows.begins rows.counts _ (best_of c.loop-e.best) (inv.0 file) inv.1 c.loop-e-test.false

@@ -6,4 +6,4 @@ pub returns-in_default : goal.returns-in_default
 returns-in_default c = λ file. initializer_absent _ _ _ _ _ (c.let_value.ensures file _) c.in_default.is
 
 pub returns : goal.returns
-returns c = λ file. initializer_found _ _ _ _ _ (c.let_value.ensures file _) _ _ c.in-To.is (c.covers.ensures file)
+returns c = λ file. initializer_found _ _ _ _ _ (c.let_value.ensures file _) _ _ c.in-Some.is (c.covers.ensures file)

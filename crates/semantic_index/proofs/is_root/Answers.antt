@@ -1,14 +1,20 @@
 -- `semantic_index::is_root` meets its contract: the parent decides. Assumes nothing.
-use mathlib.Core.Path.{sym, ap, ◌∙◌}
+use Rattle.std.specs.Prelude.{Option, None, Some, Bool, not, is_some, ◌≡◌}
+use Rattle.std.specs.Prelude.{true, false}
+use mathlib.Core.Path.{refl, sym, ap, ◌∙◌}
+use mathlib.Core.Bool.{false≢true}
 use Rattle.model.specs.Lookups.{without_parent}
-use Rattle.records.specs.Meaning.{scope_link_of}
 use Rattle.model.specs.Common.{is_none}
+use Rattle.records.specs.Meaning.{scope_link_of}
+use Rattle.records.specs.declared.FileScopeId.{FileScopeId}
 use Rattle.semantic_index.proofs.is_root.Goals as goal
 
-pub returns-in-Absent : goal.returns-in-Absent
-unfolding without_parent
-returns-in-Absent c = ap (λ l. is_none (scope_link_of l)) (sym c.in-Absent.is) ∙ ap without_parent c.scope_row-scope.ensures
+absent : (o : Option FileScopeId) (b : Bool) → is_some o ≡ not b → b ≡ is_none (scope_link_of o)
+absent None true e = refl
+absent None false e = absurd (false≢true e)
+absent (Some s) true e = absurd (false≢true (sym e))
+absent (Some s) false e = refl
 
-pub returns-in-To : goal.returns-in-To
+pub returns : goal.returns
 unfolding without_parent
-returns-in-To c = ap (λ l. is_none (scope_link_of l)) (sym c.in-To.is) ∙ ap without_parent c.scope_row-scope.ensures
+returns c = absent _ _ c.is_none.ensures ∙ ap without_parent c.scope_row-scope.ensures

@@ -1,22 +1,8 @@
--- `semantic_index::latest_definition_index_by_name_in_chain` meets its contract: the scopes that are left decide the whole. Assumes nothing.
-use mathlib.Core.Path.{sym, ap, ◌∙◌}
-use Rattle.semantic_index.proofs.Scopes.{found_begin, found_hit, found_top, found_up, found_end}
+-- `semantic_index::latest_definition_index_by_name_in_chain` meets its contract: what each scope of the chain is asked is the definition's. Assumes nothing.
+use Rattle.std.proofs.Common.{rules}
 use Rattle.model.specs.Lookups.{latest_definition_index_by_name_in_chain}
-use Rattle.records.specs.Meaning.{scope_link_of, definition_link_of}
 use Rattle.semantic_index.proofs.latest_definition_index_by_name_in_chain.Goals as goal
 
-pub loop-left-init : goal.loop-left-init
-unfolding latest_definition_index_by_name_in_chain
-loop-left-init c = found_begin _ _ _
-
-pub returns-in-To : goal.returns-in-To
-returns-in-To c = sym (c.loop-left.invariant ∙ found_hit _ _ _ _ _ _ c.loop-left-test.true c.latest_definition_index_by_name.ensures (ap definition_link_of c.in-To.is))
-
-pub returns-in_default-parent_scope : goal.returns-in_default-parent_scope
-returns-in_default-parent_scope c = sym (c.loop-left.invariant ∙ found_top _ _ _ _ _ _ c.loop-left-test.true c.latest_definition_index_by_name.ensures (ap definition_link_of c.in_default.is) (c.parent_scope.ensures _) (ap scope_link_of c.in_default-parent_scope.is))
-
-pub loop-left-preserved : goal.loop-left-preserved
-loop-left-preserved c = c.loop-left.invariant ∙ found_up _ _ _ _ _ _ _ c.loop-left-test.true c.latest_definition_index_by_name.ensures (ap definition_link_of c.in_default.is) (c.parent_scope.ensures _) (ap scope_link_of c.in-To-parent_scope.is)
-
 pub returns : goal.returns
-returns c = sym (c.loop-left.invariant ∙ found_end _ _ _ _ c.loop-left-test.false)
+unfolding latest_definition_index_by_name_in_chain
+returns c = c.first_in_chain.ensures.first _ _ (λ at found answers. search rules)

@@ -8,6 +8,3 @@ use Rattle.semantic_index.proofs.latest_visible_by_name.Given as goal
 
 abbrev pub invariant-loop-d : goal.invariant-loop-d
 invariant-loop-d l = latest_visible_by_name (module_row l.file l.words l.m) l.s.0 (name_of l.file l.name) l.start l.end ≡ last (named_and_visible (module_row l.file l.words l.m) l.s.0 (name_of l.file l.name) l.start l.end) (each (definition_row l.file l.words) l.first l.d)
-
-abbrev pub decreases-loop-d : goal.decreases-loop-d
-decreases-loop-d l = l.d

@@ -1,6 +1,5 @@
 -- `semantic_index::module_by_name` meets its contract: the modules that are left decide the whole. Assumes nothing.
 use mathlib.Core.Path.{◌≡◌}
-use Prim.Native.Nat.{◌-◌}
 use Rattle.semantic_index.proofs.Searches.{first_from}
 use Rattle.model.specs.Lookups.{module_named, module_by_name}
 use Rattle.records.specs.Layout.{module_row, index_of}
@@ -9,6 +8,3 @@ use Rattle.semantic_index.proofs.module_by_name.Given as goal
 
 abbrev pub invariant-loop-m : goal.invariant-loop-m
 invariant-loop-m l = module_by_name (index_of l.file l.words) (name_of l.file l.name) ≡ first_from (module_named (name_of l.file l.name)) (module_row l.file l.words) 0 l.count l.m
-
-abbrev pub decreases-loop-m : goal.decreases-loop-m
-decreases-loop-m l = l.count - l.m

@@ -1,6 +1,6 @@
 -- `semantic_index::root_scope` meets its contract: the rows that are left decide the whole. Assumes nothing.
 use mathlib.Core.Path.{◌≡◌}
-use Prim.Native.Nat.{ℕ, ◌-◌}
+use Prim.Native.Nat.{ℕ}
 use mathlib.Core.List.{List}
 use Rattle.semantic_index.proofs.Searches.{first_from}
 use Rattle.model.specs.Lookups.{without_parent, root_scope}
@@ -9,6 +9,3 @@ use Rattle.semantic_index.proofs.root_scope.Given as goal
 
 abbrev pub invariant-loop-s : goal.invariant-loop-s
 invariant-loop-s l = (file : List ℕ) → root_scope (module_row file l.words l.m) ≡ first_from without_parent (scope_row l.words) l.first l.count l.s
-
-abbrev pub decreases-loop-s : goal.decreases-loop-s
-decreases-loop-s l = l.count - l.s

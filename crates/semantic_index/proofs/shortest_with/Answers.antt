@@ -19,15 +19,15 @@ returns-then-end-position c =
     let end = c.expression_end-end in
     λ file. turn_behind _ _ _ _ _ (start.ensures file) (end.ensures file) c.if-position-start.false _ (omega (arith, c.if-end-position.true))
 
-pub returns-in-Absent : goal.returns-in-Absent
-returns-in-Absent c =
+pub returns-in-None : goal.returns-in-None
+returns-in-None c =
     let a = c.args in
     let start = c.expression_start-start in
     let end = c.expression_end-end in
     λ file.
     let x = expression_row file a.words.now (a.first + a.e) in
     turn_first a.position a.e _ _ x (start.ensures file) (end.ensures file) c.if-position-start.false c.if-end-position.false
-    ∙ ap (λ b. turn a.position a.e (best_of b) x) (sym c.in-Absent.is)
+    ∙ ap (λ b. turn a.position a.e (best_of b) x) (sym c.in-None.is)
 
 pub returns-then-least-span : goal.returns-then-least-span
 returns-then-least-span c =
@@ -37,7 +37,7 @@ returns-then-least-span c =
     λ file.
     let x = expression_row file a.words.now (a.first + a.e) in
     turn_longer a.position a.e _ _ x (start.ensures file) (end.ensures file) c.if-position-start.false c.if-end-position.false _ c.if-least-span.true
-    ∙ ap (λ b. turn a.position a.e (best_of b) x) (sym c.in-Found.is)
+    ∙ ap (λ b. turn a.position a.e (best_of b) x) (sym c.in-Some.is)
 
 pub returns-else-least-span : goal.returns-else-least-span
 returns-else-least-span c =
@@ -47,4 +47,4 @@ returns-else-least-span c =
     λ file.
     let x = expression_row file a.words.now (a.first + a.e) in
     turn_shorter a.position a.e _ _ x (start.ensures file) (end.ensures file) c.if-position-start.false c.if-end-position.false _ (omega (arith, c.if-least-span.false))
-    ∙ ap (λ b. turn a.position a.e (best_of b) x) (sym c.in-Found.is)
+    ∙ ap (λ b. turn a.position a.e (best_of b) x) (sym c.in-Some.is)

@@ -1,6 +1,5 @@
 -- `views::field_type` meets its contract: the fields that are left decide the whole. Assumes nothing.
 use mathlib.Core.Path.{◌≡◌}
-use Prim.Native.Nat.{◌-◌}
 use Rattle.resolution.specs.Types.{field_type}
 use Rattle.records.specs.Layout.{names_with_types_at}
 use Rattle.records.specs.Meaning.{name_of}
@@ -9,6 +8,3 @@ use Rattle.views.proofs.field_type.Given as goal
 
 abbrev pub invariant-loop-i : goal.invariant-loop-i
 invariant-loop-i l = field_type (names_with_types_at l.file l.words l.first l.count) (name_of l.file l.name) ≡ type_from l.file l.words (name_of l.file l.name) l.first l.count l.i
-
-abbrev pub decreases-loop-i : goal.decreases-loop-i
-decreases-loop-i l = l.count - l.i

@@ -2,8 +2,8 @@
 use Rattle.views.proofs.Chains.{identifier_recorded, identifier_by_name}
 use Rattle.views.proofs.identifier_definition.Goals as goal
 
-pub returns-in-To : goal.returns-in-To
-returns-in-To c = record { same = identifier_recorded _ _ _ _ _ _ _ c.in-To.is }
+pub returns-in-Some : goal.returns-in-Some
+returns-in-Some c = record { same = identifier_recorded _ _ _ _ _ _ _ c.in-Some.is }
 
-pub returns-in-Absent : goal.returns-in-Absent
-returns-in-Absent c = record { same = identifier_by_name _ _ _ _ _ _ _ c.in-Absent.is c.resolve_name_at_position.ensures }
+pub returns-in-None : goal.returns-in-None
+returns-in-None c = record { same = identifier_by_name _ _ _ _ _ _ _ c.in-None.is c.resolve_name_at_position.ensures }

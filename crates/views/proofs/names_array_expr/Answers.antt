@@ -7,4 +7,4 @@ returns-in_default c = record { same = λ file. array_absent _ _ (no_type_expr f
 
 pub returns : goal.returns
 returns c =
-    record { same = λ file. array_found _ _ _ _ (a_type_expr file _ _ _ (c.type_expr_at.ensures file) _ c.in-Found.is) (c.is_array_expr.ensures file _) }
+    record { same = λ file. array_found _ _ _ _ (a_type_expr file _ _ _ (c.type_expr_at.ensures file) _ c.in-Some.is) (c.is_array_expr.ensures file _) }

@@ -7,4 +7,4 @@ returns-in_default c = λ file. operand_absent _ _ (no_expression file _ _ _ (c.
 
 pub returns : goal.returns
 returns c =
-    λ file. operand_found _ _ _ _ (an_expression file _ _ _ (c.expression_at.ensures file) _ c.in-Found.is) (c.is_unsuffixed_literal.ensures.same file _)
+    λ file. operand_found _ _ _ _ (an_expression file _ _ _ (c.expression_at.ensures file) _ c.in-Some.is) (c.is_unsuffixed_literal.ensures.same file _)
