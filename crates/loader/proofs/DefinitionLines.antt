@@ -26,7 +26,6 @@ use Rattle.loader.specs.State.{row_entry, Fine, HasRoom}
 use Rattle.loader.specs.Lines.{tail_by, TailHeld, path_fits, LinePut}
 use Rattle.loader.specs.declared.rows.Counts.{Counts}
 use Rattle.loader.specs.declared.rows.Tail.{Tail}
-use Rattle.loader.specs.declared.rows.LineRead.{LineRead}
 use Rattle.loader.proofs.Tailing.{tail_kept}
 use Rattle.loader.proofs.Leaving.{left_then, behind_left, put_left, definition_apart}
 use Rattle.loader.proofs.Decoding.{RowOf, definition_kind_row, definition_path_lost, definition_listed, definition_other}
@@ -98,7 +97,7 @@ module _ (file t : Text) where
                 subst (Listed (n.items + x.count)) (sym (put.inside 10 (omega arith)))
                 (definition_listed file words₃ (drop q file) n.items x low (word words₃ (definition_place n.definitions)) kept few e)
 
-            pub definition_put_as : LinePut LineWord.D file words n t words₃ (LineRead.Is x.count x.end)
+            pub definition_put_as : LinePut LineWord.D file words n t words₃ (Some (x.count, x.end))
             unfolding row_entry entry_items
             definition_put_as =
                 record {

@@ -27,7 +27,6 @@ use Rattle.loader.specs.State.{row_entry, Fine, HasRoom}
 use Rattle.loader.specs.Lines.{tail_by, TailHeld, last_word, OriginHere, origin_here, OriginHeld, LinePut}
 use Rattle.loader.specs.declared.rows.Counts.{Counts}
 use Rattle.loader.specs.declared.rows.Tail.{Tail}
-use Rattle.loader.specs.declared.rows.LineRead.{LineRead}
 use Rattle.loader.proofs.Tailing.{tail_kept}
 use Rattle.loader.proofs.Leaving.{left_then, behind_left, put_left, expression_apart}
 use Rattle.loader.proofs.Decoding.{RowOf, linked_is, origin_row_is, origin_other, origin_small, node_row, node_listed, node_other, node_small}
@@ -217,7 +216,7 @@ module _ (file t : Text) where
                   (sym (ap (λ k. k % 256) (ap (word words₄) (omega arith) ∙ put.inside 0 (omega arith)) ∙ node_packed (node_number w) kind node_low))
                   (subst (ListedNode (n.items + x.count) (node_number w)) (sym (put.inside 10 (omega arith))) (node_listed file words₄ (drop q file) n.items x fine.items w kept few))
 
-              pub expression_put_as : LinePut LineWord.E file words n t words₄ (LineRead.Is x.count x.end)
+              pub expression_put_as : LinePut LineWord.E file words n t words₄ (Some (x.count, x.end))
               unfolding row_entry entry_items
               expression_put_as =
                   record {

@@ -6,6 +6,10 @@ use mathlib.Core.List.{List, [], ◌∷◌}
 use native.Mathlib.Nat.{add-zero}
 use native.Mathlib.Omega.{arith}
 use lib.ListN.{length, set}
+use Rattle.std.specs.Prelude.{Option, None}
+use Rattle.model.specs.Common.{Text}
+use Rattle.format.specs.Lines.{line_from}
+use Rattle.loader.specs.Lines.{LineIs, LinePut}
 use Rattle.format.specs.declared.LineWord.{LineWord}
 use Rattle.records.specs.Layout.{word, module_place, scope_place, type_expr_place, definition_place, expression_place, question_place, item_place}
 use Rattle.records.specs.Promises.{Put}
@@ -39,6 +43,11 @@ left_then p q =
       questions = λ i a b. q.questions i a b ∙ p.questions i a b;
       items = λ i a b. q.items i a b ∙ p.items i a b;
     }
+
+-- no line was read
+pub line_lost : {w : LineWord} {file words : List ℕ} {n : Counts} {t : Text} {words' : List ℕ} {r : Option (ℕ × ℕ)}
+    → r ≡ None → Left n words words' → line_from w t ≡ None → LinePut w file words n t words' r
+line_lost {w} {file} {words} {n} {t} {words'} e left none = record { left = left; line = subst (LineIs w file words' n t) (sym e) none }
 
 -- fewer rows
 pub record Fewer (n m : Counts) : Type 0 where

@@ -26,7 +26,6 @@ use Rattle.loader.specs.Values.{parts, linked}
 use Rattle.loader.specs.Lines.{tail_by, TailHeld, scope_fits, LinePut}
 use Rattle.loader.specs.declared.rows.Counts.{Counts}
 use Rattle.loader.specs.declared.rows.Tail.{Tail}
-use Rattle.loader.specs.declared.rows.LineRead.{LineRead}
 use Rattle.loader.proofs.Leaving.{left_then, behind_left, put_left, module_apart, scope_apart}
 use Rattle.loader.proofs.Decoding.{scope_row_is, scope_lost}
 
@@ -58,7 +57,7 @@ module _ (file t : Text) where
 
         module _ {words words'' : List ℕ} (fine : Fine file words n) (room : HasRoom LineWord.S n) (fits : scope_fits parent w ≡ true) (behind : Behind n.items words words')
             (put : Put words' (scope_place n.scopes) (parent ∷ scope_number w ∷ []) words'') where
-          pub scope_put_as : LinePut LineWord.S file words n t words'' (LineRead.Is x.count x.end)
+          pub scope_put_as : LinePut LineWord.S file words n t words'' (Some (x.count, x.end))
           unfolding row_entry entry_items
           scope_put_as =
               record {
@@ -91,7 +90,7 @@ module _ (file t : Text) where
     name_put : word words₃ (module_place n.modules) ≡ (parts x.a).low
     name_put = ap (word words₃) (omega arith) ∙ put.inside 0 (omega arith)
 
-    pub module_put_as : LinePut LineWord.M file words n t words₃ (LineRead.Is x.count x.end)
+    pub module_put_as : LinePut LineWord.M file words n t words₃ (Some (x.count, x.end))
     unfolding row_entry entry_items line_from module_line
     module_put_as =
         record {

@@ -6,11 +6,11 @@ ghost use Rattle.records.specs.Promises.{Put};
 ghost use Rattle.loader.specs.State.{Fine, HasRoom};
 ghost use Rattle.loader.specs.Lines.{TailPut, is_size, last_word, scope_fits, path_fits, OriginIs, LinePut};
 
-use crate::items::ItemsRead;
-use crate::values::{HIGH, SlotWords, ThreeWords};
+use crate::values::HIGH;
 use crate::{items, shapes, values};
-use fields::Word;
-use format::{Kind, ScopeWord, Shape};
+use format::{
+    DefinitionWord, Kind, NodeWord, OriginWord, QuestionWord, ScopeWord, Shape, TypeWord,
+};
 
 // What was read: the stage of the last line, and how many records of each kind and items there are.
 #[derive(Clone, Copy)]
@@ -36,19 +36,6 @@ pub struct Tail {
     pub end: usize,
 }
 
-#[derive(Clone, Copy)]
-pub enum TailRead {
-    Is(Tail),
-    Wrong,
-}
-
-// A line that was read: how many items its list has, and where its fields end.
-#[derive(Clone, Copy)]
-pub enum LineRead {
-    Is(usize, usize),
-    Wrong,
-}
-
 // ------------------------------------------------------------------ what stands behind a word
 
 // The word of a list. Of more items than there may be in all it has no meaning.
@@ -62,21 +49,13 @@ fn list_word(first: usize, count: usize) -> u32
     (first + 65536 * count) as u32
 }
 
-fn read_tail(file: &[u8], shape: Shape, at: usize, words: &mut [u32], first: usize) -> TailRead
+fn read_tail(file: &[u8], shape: Shape, at: usize, words: &mut [u32], first: usize) -> Option<Tail>
     requires { (length file.now ≤ 65536) × (length words.old ≡ 16384) × (first ≤ 2048) }
     ensures { TailPut file.now words.old shape (drop at file.now) first words.new result }
 {
-    let ka = shape.a;
-    let kb = shape.b;
-    let kc = shape.c;
-    let listed = shape.list;
-    let ThreeWords::Are(a, b, c, e) = values::three_words(file, ka, kb, kc, at) else {
-        return TailRead::Wrong;
-    };
-    let ItemsRead::Are(count, end) = items::read_items(file, listed, e, words, first) else {
-        return TailRead::Wrong;
-    };
-    TailRead::Is(Tail {
+    let (a, b, c, e) = values::three_words(file, shape.a, shape.b, shape.c, at)?;
+    let (count, end) = items::read_items(file, shape.list, e, words, first)?;
+    Some(Tail {
         a,
         b,
         c,
@@ -89,33 +68,20 @@ fn read_tail(file: &[u8], shape: Shape, at: usize, words: &mut [u32], first: usi
 fn is_size(kind: Kind) -> bool
     ensures { result ≡ is_size kind }
 {
-    match kind {
-        Kind::Nothing => false,
-        Kind::Number => false,
-        Kind::MaybeNumber => false,
-        Kind::Position => false,
-        Kind::Size => true,
-        Kind::Name => false,
-        Kind::MaybeName => false,
-        Kind::UnaryOp => false,
-        Kind::BinaryOp => false,
-        Kind::Unused => false,
-    }
+    matches!(kind, Kind::Size)
 }
 
 // The last word of a row of T or E: a list's, a size's high word, or the third field's.
 fn last_word(shape: Shape, tail: Tail) -> u32
     ensures { result ≡ last_word shape tail }
 {
-    let listed = shape.list;
-    if items::is_empty_list(listed) {
-        let kb = shape.b;
-        if is_size(kb) {
-            return (tail.b / HIGH) as u32;
-        }
-        return (tail.c % HIGH) as u32;
+    if !items::is_empty_list(shape.list) {
+        return tail.list;
     }
-    tail.list
+    if is_size(shape.b) {
+        return (tail.b / HIGH) as u32;
+    }
+    (tail.c % HIGH) as u32
 }
 
 // ------------------------------------------------------------------ rows
@@ -138,19 +104,19 @@ pub fn put_four(words: &mut [u32], at: usize, a: u32, b: u32, c: u32, d: u32)
     words[at + 3] = d;
 }
 
+// Each of the six gives how many items the line's list has, and where its fields end.
+
 // M: the name, and where the module's rows of each kind begin.
-pub fn read_module(file: &[u8], at: usize, words: &mut [u32], n: Counts) -> LineRead
+pub fn read_module(file: &[u8], at: usize, words: &mut [u32], n: Counts) -> Option<(usize, usize)>
     requires { Fine file.now words.old n × HasRoom LineWord.M n }
     ensures { LinePut LineWord.M file.now words.old n (drop at file.now) words.new result }
 {
-    let TailRead::Is(tail) = read_tail(file, shapes::module_shape(), at, words, n.items) else {
-        return LineRead::Wrong;
-    };
+    let tail = read_tail(file, shapes::module_shape(), at, words, n.items)?;
     let row = records::MODULES + 8 * n.modules;
     put_two(words, row, (tail.a % HIGH) as u32, n.scopes as u32);
     put_two(words, row + 2, n.types as u32, n.definitions as u32);
     put_two(words, row + 4, n.expressions as u32, 0);
-    LineRead::Is(tail.count, tail.end)
+    Some((tail.count, tail.end))
 }
 
 fn scope_fits(parent: u32, word: ScopeWord) -> bool
@@ -158,30 +124,22 @@ fn scope_fits(parent: u32, word: ScopeWord) -> bool
 {
     match word {
         ScopeWord::Module => parent == 0,
-        ScopeWord::Function => parent != 0,
-        ScopeWord::Block => parent != 0,
-        ScopeWord::Loop => parent != 0,
+        ScopeWord::Function | ScopeWord::Block | ScopeWord::Loop => parent != 0,
         ScopeWord::Other => false,
     }
 }
 
 // S
-pub fn read_scope(file: &[u8], at: usize, words: &mut [u32], n: Counts) -> LineRead
+pub fn read_scope(file: &[u8], at: usize, words: &mut [u32], n: Counts) -> Option<(usize, usize)>
     requires { Fine file.now words.old n × HasRoom LineWord.S n }
     ensures { LinePut LineWord.S file.now words.old n (drop at file.now) words.new result }
 {
-    let SlotWords::Are(parent, e) = values::slot_words(file, Kind::MaybeNumber, at) else {
-        return LineRead::Wrong;
-    };
-    let Word::Is(p, q) = fields::word_here(file, e) else {
-        return LineRead::Wrong;
-    };
-    let word = words::scope_word(&file[p..q]);
-    let TailRead::Is(tail) = read_tail(file, shapes::bare(), q, words, n.items) else {
-        return LineRead::Wrong;
-    };
+    let (parent, e) = values::slot_words(file, Kind::MaybeNumber, at)?;
+    let (p, q) = fields::word_here(file, e)?;
+    let word: ScopeWord = words::word(&file[p..q]);
+    let tail = read_tail(file, shapes::bare(), q, words, n.items)?;
     if !scope_fits((parent % HIGH) as u32, word) {
-        return LineRead::Wrong;
+        return None;
     }
     put_two(
         words,
@@ -189,25 +147,21 @@ pub fn read_scope(file: &[u8], at: usize, words: &mut [u32], n: Counts) -> LineR
         (parent % HIGH) as u32,
         shapes::scope_number(word),
     );
-    LineRead::Is(tail.count, tail.end)
+    Some((tail.count, tail.end))
 }
 
 // T
-pub fn read_type(file: &[u8], at: usize, words: &mut [u32], n: Counts) -> LineRead
+pub fn read_type(file: &[u8], at: usize, words: &mut [u32], n: Counts) -> Option<(usize, usize)>
     requires { Fine file.now words.old n × HasRoom LineWord.T n }
     ensures { LinePut LineWord.T file.now words.old n (drop at file.now) words.new result }
 {
-    let Word::Is(p, q) = fields::word_here(file, at) else {
-        return LineRead::Wrong;
-    };
-    let word = words::type_word(&file[p..q]);
+    let (p, q) = fields::word_here(file, at)?;
+    let word: TypeWord = words::word(&file[p..q]);
     let kind = shapes::type_number(word);
     let shape = shapes::type_shape(word);
-    let TailRead::Is(tail) = read_tail(file, shape, q, words, n.items) else {
-        return LineRead::Wrong;
-    };
+    let tail = read_tail(file, shape, q, words, n.items)?;
     if kind == 7 {
-        return LineRead::Wrong;
+        return None;
     }
     put_four(
         words,
@@ -217,58 +171,49 @@ pub fn read_type(file: &[u8], at: usize, words: &mut [u32], n: Counts) -> LineRe
         (tail.b % HIGH) as u32,
         last_word(shape, tail),
     );
-    LineRead::Is(tail.count, tail.end)
+    Some((tail.count, tail.end))
 }
 
 // A let: "v is the destructured value; with `-` there is no path".
 fn path_fits(kind: u32, value: u32, count: usize) -> bool
     ensures { result ≡ path_fits kind value count }
 {
-    if kind == 3 {
-        if value == 0 {
-            return count == 0;
-        }
-    }
-    true
+    kind != 3 || value != 0 || count == 0
 }
 
 // D
-pub fn read_definition(file: &[u8], at: usize, words: &mut [u32], n: Counts) -> LineRead
+pub fn read_definition(
+    file: &[u8],
+    at: usize,
+    words: &mut [u32],
+    n: Counts,
+) -> Option<(usize, usize)>
     requires { Fine file.now words.old n × HasRoom LineWord.D n }
     ensures { LinePut LineWord.D file.now words.old n (drop at file.now) words.new result }
 {
-    let ThreeWords::Are(scope, name, name_start, e) = values::three_words(
+    let (scope, name, name_start, e) = values::three_words(
         file,
         Kind::Number,
         Kind::Name,
         Kind::Position,
         at,
-    ) else {
-        return LineRead::Wrong;
-    };
-    let ThreeWords::Are(name_end, full_start, full_end, f) = values::three_words(
+    )?;
+    let (name_end, full_start, full_end, f) = values::three_words(
         file,
         Kind::Position,
         Kind::Position,
         Kind::Position,
         e,
-    ) else {
-        return LineRead::Wrong;
-    };
-    let Word::Is(p, q) = fields::word_here(file, f) else {
-        return LineRead::Wrong;
-    };
-    let word = words::definition_word(&file[p..q]);
+    )?;
+    let (p, q) = fields::word_here(file, f)?;
+    let word: DefinitionWord = words::word(&file[p..q]);
     let kind = shapes::definition_number(word);
-    let TailRead::Is(tail) = read_tail(file, shapes::definition_shape(word), q, words, n.items)
-    else {
-        return LineRead::Wrong;
-    };
+    let tail = read_tail(file, shapes::definition_shape(word), q, words, n.items)?;
     if kind == 7 {
-        return LineRead::Wrong;
+        return None;
     }
     if !path_fits(kind, (tail.c % HIGH) as u32, tail.count) {
-        return LineRead::Wrong;
+        return None;
     }
     let row = records::DEFINITIONS + 12 * n.definitions;
     put_four(
@@ -295,24 +240,20 @@ pub fn read_definition(file: &[u8], at: usize, words: &mut [u32], n: Counts) -> 
         tail.list,
         0,
     );
-    LineRead::Is(tail.count, tail.end)
+    Some((tail.count, tail.end))
 }
 
 // Q
-pub fn read_question(file: &[u8], at: usize, words: &mut [u32], n: Counts) -> LineRead
+pub fn read_question(file: &[u8], at: usize, words: &mut [u32], n: Counts) -> Option<(usize, usize)>
     requires { Fine file.now words.old n × HasRoom LineWord.Q n }
     ensures { LinePut LineWord.Q file.now words.old n (drop at file.now) words.new result }
 {
-    let Word::Is(p, q) = fields::word_here(file, at) else {
-        return LineRead::Wrong;
-    };
-    let word = words::question_word(&file[p..q]);
+    let (p, q) = fields::word_here(file, at)?;
+    let word: QuestionWord = words::word(&file[p..q]);
     let kind = shapes::question_number(word);
-    let TailRead::Is(tail) = read_tail(file, shapes::question_shape(word), q, words, n.items) else {
-        return LineRead::Wrong;
-    };
+    let tail = read_tail(file, shapes::question_shape(word), q, words, n.items)?;
     if kind == 4 {
-        return LineRead::Wrong;
+        return None;
     }
     put_four(
         words,
@@ -322,75 +263,57 @@ pub fn read_question(file: &[u8], at: usize, words: &mut [u32], n: Counts) -> Li
         (tail.b % HIGH) as u32,
         (tail.c % HIGH) as u32,
     );
-    LineRead::Is(tail.count, tail.end)
+    Some((tail.count, tail.end))
 }
 
 // E, behind its head: the origin's number, link and value, and where they end.
-#[derive(Clone, Copy)]
-pub enum OriginRead {
-    Is(u32, u32, u32, usize),
-    Wrong,
-}
-
-fn read_origin(file: &[u8], at: usize) -> OriginRead
+fn read_origin(file: &[u8], at: usize) -> Option<(u32, u32, u32, usize)>
     requires { length file.now ≤ 65536 }
     ensures { OriginIs file.now (drop at file.now) result }
 {
-    let Word::Is(p, q) = fields::word_here(file, at) else {
-        return OriginRead::Wrong;
-    };
-    let word = words::origin_word(&file[p..q]);
+    let (p, q) = fields::word_here(file, at)?;
+    let word: OriginWord = words::word(&file[p..q]);
     let kind = shapes::origin_number(word);
     let shape = shapes::origin_shape(word);
-    let ka = shape.a;
-    let kb = shape.b;
-    let ThreeWords::Are(link, value, _, e) = values::three_words(file, ka, kb, Kind::Nothing, q)
-    else {
-        return OriginRead::Wrong;
-    };
+    let (link, value, _, e) = values::three_words(file, shape.a, shape.b, Kind::Nothing, q)?;
     if kind == 6 {
-        return OriginRead::Wrong;
+        return None;
     }
-    OriginRead::Is(kind, (link % HIGH) as u32, (value % HIGH) as u32, e)
+    Some((kind, (link % HIGH) as u32, (value % HIGH) as u32, e))
 }
 
 // E
-pub fn read_expression(file: &[u8], at: usize, words: &mut [u32], n: Counts) -> LineRead
+pub fn read_expression(
+    file: &[u8],
+    at: usize,
+    words: &mut [u32],
+    n: Counts,
+) -> Option<(usize, usize)>
     requires { Fine file.now words.old n × HasRoom LineWord.E n }
     ensures { LinePut LineWord.E file.now words.old n (drop at file.now) words.new result }
 {
-    let ThreeWords::Are(scope, start, end, e) = values::three_words(
+    let (scope, start, end, e) = values::three_words(
         file,
         Kind::Number,
         Kind::Position,
         Kind::Position,
         at,
-    ) else {
-        return LineRead::Wrong;
-    };
-    let ThreeWords::Are(expected, definition, _, f) = values::three_words(
+    )?;
+    let (expected, definition, _, f) = values::three_words(
         file,
         Kind::MaybeNumber,
         Kind::MaybeNumber,
         Kind::Nothing,
         e,
-    ) else {
-        return LineRead::Wrong;
-    };
-    let OriginRead::Is(origin, link, value, g) = read_origin(file, f) else {
-        return LineRead::Wrong;
-    };
-    let Word::Is(p, q) = fields::word_here(file, g) else {
-        return LineRead::Wrong;
-    };
-    let word = words::node_word(&file[p..q]);
+    )?;
+    let (origin, link, value, g) = read_origin(file, f)?;
+    let (p, q) = fields::word_here(file, g)?;
+    let word: NodeWord = words::word(&file[p..q]);
     let node = shapes::node_number(word);
     let shape = shapes::node_shape(word);
-    let TailRead::Is(tail) = read_tail(file, shape, q, words, n.items) else {
-        return LineRead::Wrong;
-    };
+    let tail = read_tail(file, shape, q, words, n.items)?;
     if node == 16 {
-        return LineRead::Wrong;
+        return None;
     }
     let row = records::EXPRESSIONS + 11 * n.expressions;
     put_four(
@@ -416,5 +339,5 @@ pub fn read_expression(file: &[u8], at: usize, words: &mut [u32], n: Counts) -> 
         (tail.b % HIGH) as u32,
     );
     words[row + 10] = last_word(shape, tail);
-    LineRead::Is(tail.count, tail.end)
+    Some((tail.count, tail.end))
 }
