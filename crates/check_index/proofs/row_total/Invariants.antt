@@ -6,7 +6,4 @@ use Rattle.check_index.proofs.Totals.{left}
 use Rattle.check_index.proofs.row_total.Given as goal
 
 abbrev pub invariant-loop-m : goal.invariant-loop-m
-invariant-loop-m l = (l.m ≤ l.count) × (l.sum ≤ l.m * 4294967295) × (row_total l.words l.kind ≡ l.sum + left l.words l.kind l.m)
-
-abbrev pub decreases-loop-m : goal.decreases-loop-m
-decreases-loop-m l = l.count - l.m
+invariant-loop-m l = (l.sum ≤ l.m * 4294967295) × (row_total l.words l.kind ≡ l.sum + left l.words l.kind l.m)
