@@ -61,8 +61,8 @@ fn put_numbers(out: &mut [u8], at: usize, numbers: &[u64]) -> usize
     ensures puts { take result out.new ≡ counted (take at out.old) numbers.now }
 {
     let mut end = at;
-    for i in 0..numbers.len() {
-        end = put_number(out, end, numbers[i]);
+    for n in numbers {
+        end = put_number(out, end, *n);
     }
     end
 }
@@ -93,7 +93,19 @@ fn put_records(words: &[u32], out: &mut [u8], at: usize) -> usize
     let expressions = row_total(words, records::EXPRESSION_ROWS);
     let questions = word(words, records::QUESTION_COUNT);
     let items = word(words, ITEM_COUNT);
-    put_numbers(out, at, &[modules, scopes, types, definitions, expressions, questions, items])
+    put_numbers(
+        out,
+        at,
+        &[
+            modules,
+            scopes,
+            types,
+            definitions,
+            expressions,
+            questions,
+            items,
+        ],
+    )
 }
 
 fn word(words: &[u32], i: usize) -> u64

@@ -5,7 +5,7 @@ use lib.ListN.{length, take}
 use Rattle.check_index.specs.Line.{counted}
 use Rattle.check_index.proofs.put_numbers.Given as goal
 
-abbrev pub invariant-loop-i : goal.invariant-loop-i
-invariant-loop-i l = (length l.out ≡ length l.initial.out)
-    × (l.end ≤ l.at + 21 * l.i)
-    × (take l.end l.out ≡ counted (take l.at l.initial.out) (take l.i l.numbers))
+abbrev pub invariant-loop-n : goal.invariant-loop-n
+invariant-loop-n l = (length l.out ≡ length l.initial.out)
+    × (l.end ≤ l.at + 21 * l.n-index)
+    × (take l.end l.out ≡ counted (take l.at l.initial.out) (take l.n-index l.numbers))

@@ -1,5 +1,5 @@
 -- `check_index::row_total` meets its contract: what is left to add. Assumes nothing.
-use Prim.Native.Nat.{◌+◌, ◌-◌, ◌*◌, ◌≤◌}
+use Prim.Native.Nat.{◌+◌, ◌*◌, ◌≤◌}
 use mathlib.Core.Path.{◌≡◌}
 use Rattle.check_index.specs.Line.{row_total}
 use Rattle.check_index.proofs.Totals.{left}
