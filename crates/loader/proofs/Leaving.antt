@@ -6,7 +6,12 @@ use mathlib.Core.List.{List, [], ◌∷◌}
 use native.Mathlib.Nat.{add-zero}
 use native.Mathlib.Omega.{arith}
 use lib.ListN.{length, set}
-use Rattle.std.specs.Prelude.{Option, None}
+use Rattle.std.specs.Prelude.{Option, None, Some, if◌then◌else◌}
+use mathlib.Core.Bool.{Bool, true, false, false≢true}
+use lib.Dec.{eqb}
+use borrow.Author.Tests.{eq-eqb}
+use Rattle.model.proofs.Tests.{eqb_sound, none≢some, some-injective}
+use Rattle.loader.specs.Numbers.{known}
 use Rattle.model.specs.Common.{Text}
 use Rattle.format.specs.Lines.{line_from}
 use Rattle.loader.specs.Lines.{LineIs, LinePut}
@@ -157,3 +162,19 @@ put_second {words} {words'} {at} {a} e p = subst (λ v. Put words at v words') (
 -- one word
 pub put_only : {words : List ℕ} {at v v' : ℕ} → v ≡ v' → at < length words → Put words at (v' ∷ []) (set words at v)
 put_only {words} {at} {v} e room = subst (λ k. Put words at (k ∷ []) (set words at v)) e (put_more at v (put_nothing words at) (sym (add-zero at)) room)
+
+-- a word's number, where the word is one of the table's, and where it is not
+module _ (other n : ℕ) (r : Option ℕ) (is : r ≡ known other n) where
+  pub number_lost : r ≡ None → n ≡ other
+  number_lost e = by (eqb n other) refl (sym e ∙ is)
+    where
+      by : (b : Bool) → eqb n other ≡ b → ◌≡◌ {A = Option ℕ} None (if b then None else Some n) → n ≡ other
+      by true q h = eqb_sound n other q
+      by false q h = absurd (none≢some h)
+
+  pub number_kept : (k : ℕ) → r ≡ Some k → (k ≡ n) × (n ≡ other → ⊥)
+  number_kept k e = by (eqb n other) refl (sym e ∙ is)
+    where
+      by : (b : Bool) → eqb n other ≡ b → ◌≡◌ {A = Option ℕ} (Some k) (if b then None else Some n) → (k ≡ n) × (n ≡ other → ⊥)
+      by true q h = absurd (none≢some (sym h))
+      by false q h = (some-injective h, λ same. false≢true (sym q ∙ eq-eqb n other same))

@@ -157,12 +157,9 @@ pub fn read_type(file: &[u8], at: usize, words: &mut [u32], n: Counts) -> Option
 {
     let (p, q) = fields::word_here(file, at)?;
     let word: TypeWord = words::word(&file[p..q]);
-    let kind = shapes::type_number(word);
     let shape = shapes::type_shape(word);
     let tail = read_tail(file, shape, q, words, n.items)?;
-    if kind == 7 {
-        return None;
-    }
+    let kind = shapes::type_number(word)?;
     put_four(
         words,
         records::TYPE_EXPRS + 4 * n.types,
@@ -207,11 +204,8 @@ pub fn read_definition(
     )?;
     let (p, q) = fields::word_here(file, f)?;
     let word: DefinitionWord = words::word(&file[p..q]);
-    let kind = shapes::definition_number(word);
     let tail = read_tail(file, shapes::definition_shape(word), q, words, n.items)?;
-    if kind == 7 {
-        return None;
-    }
+    let kind = shapes::definition_number(word)?;
     if !path_fits(kind, (tail.c % HIGH) as u32, tail.count) {
         return None;
     }
@@ -250,11 +244,8 @@ pub fn read_question(file: &[u8], at: usize, words: &mut [u32], n: Counts) -> Op
 {
     let (p, q) = fields::word_here(file, at)?;
     let word: QuestionWord = words::word(&file[p..q]);
-    let kind = shapes::question_number(word);
     let tail = read_tail(file, shapes::question_shape(word), q, words, n.items)?;
-    if kind == 4 {
-        return None;
-    }
+    let kind = shapes::question_number(word)?;
     put_four(
         words,
         records::QUESTIONS + 4 * n.questions,
@@ -273,12 +264,9 @@ fn read_origin(file: &[u8], at: usize) -> Option<(u32, u32, u32, usize)>
 {
     let (p, q) = fields::word_here(file, at)?;
     let word: OriginWord = words::word(&file[p..q]);
-    let kind = shapes::origin_number(word);
     let shape = shapes::origin_shape(word);
     let (link, value, _, e) = values::three_words(file, shape.a, shape.b, Kind::Nothing, q)?;
-    if kind == 6 {
-        return None;
-    }
+    let kind = shapes::origin_number(word)?;
     Some((kind, (link % HIGH) as u32, (value % HIGH) as u32, e))
 }
 
@@ -309,12 +297,9 @@ pub fn read_expression(
     let (origin, link, value, g) = read_origin(file, f)?;
     let (p, q) = fields::word_here(file, g)?;
     let word: NodeWord = words::word(&file[p..q]);
-    let node = shapes::node_number(word);
     let shape = shapes::node_shape(word);
     let tail = read_tail(file, shape, q, words, n.items)?;
-    if node == 16 {
-        return None;
-    }
+    let node = shapes::node_number(word)?;
     let row = records::EXPRESSIONS + 11 * n.expressions;
     put_four(
         words,

@@ -3,7 +3,7 @@ ghost use Rattle.std.specs.Prelude.{◌≡◌};
 ghost use Rattle.format.specs.declared.Kind.{Kind};
 ghost use Rattle.format.specs.declared.Listed.{Listed};
 ghost use Rattle.format.specs.Shapes.{bare, module_shape, type_shape, definition_shape, origin_shape, node_shape, question_shape};
-ghost use Rattle.loader.specs.Numbers.{scope_number, type_number, definition_number, origin_number, node_number, question_number};
+ghost use Rattle.loader.specs.Numbers.{known, scope_number, type_number, definition_number, origin_number, node_number, question_number};
 
 use format::{
     DefinitionWord, Kind, Listed, NodeWord, OriginWord, QuestionWord, ScopeWord, Shape, TypeWord,
@@ -67,10 +67,13 @@ pub fn type_shape(word: TypeWord) -> Shape
     }
 }
 
-pub fn type_number(word: TypeWord) -> u32
-    ensures { result ≡ type_number word }
+pub fn type_number(word: TypeWord) -> Option<u32>
+    ensures { result ≡ known 7 (type_number word) }
 {
-    word as u32
+    match word {
+        TypeWord::Other => None,
+        _ => Some(word as u32),
+    }
 }
 
 pub fn definition_shape(word: DefinitionWord) -> Shape
@@ -91,10 +94,13 @@ pub fn definition_shape(word: DefinitionWord) -> Shape
     }
 }
 
-pub fn definition_number(word: DefinitionWord) -> u32
-    ensures { result ≡ definition_number word }
+pub fn definition_number(word: DefinitionWord) -> Option<u32>
+    ensures { result ≡ known 7 (definition_number word) }
 {
-    word as u32
+    match word {
+        DefinitionWord::Other => None,
+        _ => Some(word as u32),
+    }
 }
 
 pub fn origin_shape(word: OriginWord) -> Shape
@@ -111,10 +117,13 @@ pub fn origin_shape(word: OriginWord) -> Shape
     }
 }
 
-pub fn origin_number(word: OriginWord) -> u32
-    ensures { result ≡ origin_number word }
+pub fn origin_number(word: OriginWord) -> Option<u32>
+    ensures { result ≡ known 6 (origin_number word) }
 {
-    word as u32
+    match word {
+        OriginWord::Other => None,
+        _ => Some(word as u32),
+    }
 }
 
 pub fn node_shape(word: NodeWord) -> Shape
@@ -141,10 +150,13 @@ pub fn node_shape(word: NodeWord) -> Shape
     }
 }
 
-pub fn node_number(word: NodeWord) -> u32
-    ensures { result ≡ node_number word }
+pub fn node_number(word: NodeWord) -> Option<u32>
+    ensures { result ≡ known 16 (node_number word) }
 {
-    word as u32
+    match word {
+        NodeWord::Other => None,
+        _ => Some(word as u32),
+    }
 }
 
 pub fn question_shape(word: QuestionWord) -> Shape
@@ -159,10 +171,13 @@ pub fn question_shape(word: QuestionWord) -> Shape
     }
 }
 
-pub fn question_number(word: QuestionWord) -> u32
-    ensures { result ≡ question_number word }
+pub fn question_number(word: QuestionWord) -> Option<u32>
+    ensures { result ≡ known 4 (question_number word) }
 {
-    word as u32
+    match word {
+        QuestionWord::Other => None,
+        _ => Some(word as u32),
+    }
 }
 
 pub fn scope_number(word: ScopeWord) -> u32

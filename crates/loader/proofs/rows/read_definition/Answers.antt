@@ -5,7 +5,7 @@ use Rattle.fields.specs.Held.{word_is}
 use Rattle.loader.specs.Values.{parts}
 use Rattle.loader.specs.Lines.{path_fits}
 use Rattle.loader.proofs.Tailing.{three_found, three_lost, tail_of, tail_none, tail_put_as}
-use Rattle.loader.proofs.Leaving.{line_lost, left_self, behind_left, put_ends}
+use Rattle.loader.proofs.Leaving.{number_lost, number_kept, line_lost, left_self, behind_left, put_ends}
 use Rattle.loader.proofs.DefinitionLines.{definition_no_first, definition_no_second, definition_no_word, definition_no_tail, definition_no_kind, definition_no_path, definition_put_as}
 use Rattle.loader.proofs.rows.read_definition.Goals as goal
 
@@ -26,17 +26,17 @@ returns-in_err-tail c =
     let tp = tail_put_as {words' = c.read_tail.new.words} c.definition_shape.ensures c.read_tail.ensures in
     line_lost c.from_residual-in_err-tail.ensures (behind_left c.args.n c.requires.0 tp.behind) (definition_no_tail c.args.file.now _ (parts c.in_ok-scope.scope) (parts c.in_ok-scope.name) (parts c.in_ok-scope.name_start) c.in_ok-scope.e (three_found c.args.file.now _ Kind.Number Kind.Name Kind.Position c.three_words.result c.three_words.ensures c.in_ok-scope.scope c.in_ok-scope.name c.in_ok-scope.name_start c.in_ok-scope.e c.in_ok-scope.was) (parts c.in_ok-name_end.name_end) (parts c.in_ok-name_end.full_start) (parts c.in_ok-name_end.full_end) c.in_ok-name_end.f (three_found c.args.file.now _ Kind.Position Kind.Position Kind.Position c.three_words-2.result c.three_words-2.ensures c.in_ok-name_end.name_end c.in_ok-name_end.full_start c.in_ok-name_end.full_end c.in_ok-name_end.f c.in_ok-name_end.was) _ c.in_ok-p.q (sym c.word_here.ensures.is ∙ ap (word_is c.args.file.now) c.in_ok-p.was) c.word-word.result c.word-word.ensures (tail_none c.args.file.now _ _ _ _ tp.tail c.in_err-tail.was))
 
-pub returns-then-kind-eq7 : goal.returns-then-kind-eq7
-returns-then-kind-eq7 c =
+pub returns-in_err-kind : goal.returns-in_err-kind
+returns-in_err-kind c =
     let tp = tail_put_as {words' = c.read_tail.new.words} c.definition_shape.ensures c.read_tail.ensures in
-    record { left = behind_left c.args.n c.requires.0 tp.behind; line = definition_no_kind c.args.file.now _ (parts c.in_ok-scope.scope) (parts c.in_ok-scope.name) (parts c.in_ok-scope.name_start) c.in_ok-scope.e (three_found c.args.file.now _ Kind.Number Kind.Name Kind.Position c.three_words.result c.three_words.ensures c.in_ok-scope.scope c.in_ok-scope.name c.in_ok-scope.name_start c.in_ok-scope.e c.in_ok-scope.was) (parts c.in_ok-name_end.name_end) (parts c.in_ok-name_end.full_start) (parts c.in_ok-name_end.full_end) c.in_ok-name_end.f (three_found c.args.file.now _ Kind.Position Kind.Position Kind.Position c.three_words-2.result c.three_words-2.ensures c.in_ok-name_end.name_end c.in_ok-name_end.full_start c.in_ok-name_end.full_end c.in_ok-name_end.f c.in_ok-name_end.was) _ c.in_ok-p.q (sym c.word_here.ensures.is ∙ ap (word_is c.args.file.now) c.in_ok-p.was) c.word-word.result c.word-word.ensures c.args.n c.in_ok-tail.tail (tail_of c.args.file.now _ _ _ c.args.n.items tp.tail c.in_ok-tail.tail c.in_ok-tail.was) c.requires.0.items (sym c.definition_number-kind.ensures ∙ c.if-kind-eq7.true) }
+    line_lost c.from_residual-in_err-kind.ensures (behind_left c.args.n c.requires.0 tp.behind) (definition_no_kind c.args.file.now _ (parts c.in_ok-scope.scope) (parts c.in_ok-scope.name) (parts c.in_ok-scope.name_start) c.in_ok-scope.e (three_found c.args.file.now _ Kind.Number Kind.Name Kind.Position c.three_words.result c.three_words.ensures c.in_ok-scope.scope c.in_ok-scope.name c.in_ok-scope.name_start c.in_ok-scope.e c.in_ok-scope.was) (parts c.in_ok-name_end.name_end) (parts c.in_ok-name_end.full_start) (parts c.in_ok-name_end.full_end) c.in_ok-name_end.f (three_found c.args.file.now _ Kind.Position Kind.Position Kind.Position c.three_words-2.result c.three_words-2.ensures c.in_ok-name_end.name_end c.in_ok-name_end.full_start c.in_ok-name_end.full_end c.in_ok-name_end.f c.in_ok-name_end.was) _ c.in_ok-p.q (sym c.word_here.ensures.is ∙ ap (word_is c.args.file.now) c.in_ok-p.was) c.word-word.result c.word-word.ensures c.args.n c.in_ok-tail.tail (tail_of c.args.file.now _ _ _ c.args.n.items tp.tail c.in_ok-tail.tail c.in_ok-tail.was) c.requires.0.items (number_lost 7 _ _ c.definition_number.ensures c.in_err-kind.was))
 
 pub returns-then-not-path_fits : goal.returns-then-not-path_fits
 returns-then-not-path_fits c =
     let tp = tail_put_as {words' = c.read_tail.new.words} c.definition_shape.ensures c.read_tail.ensures in
-    record { left = behind_left c.args.n c.requires.0 tp.behind; line = definition_no_path c.args.file.now _ (parts c.in_ok-scope.scope) (parts c.in_ok-scope.name) (parts c.in_ok-scope.name_start) c.in_ok-scope.e (three_found c.args.file.now _ Kind.Number Kind.Name Kind.Position c.three_words.result c.three_words.ensures c.in_ok-scope.scope c.in_ok-scope.name c.in_ok-scope.name_start c.in_ok-scope.e c.in_ok-scope.was) (parts c.in_ok-name_end.name_end) (parts c.in_ok-name_end.full_start) (parts c.in_ok-name_end.full_end) c.in_ok-name_end.f (three_found c.args.file.now _ Kind.Position Kind.Position Kind.Position c.three_words-2.result c.three_words-2.ensures c.in_ok-name_end.name_end c.in_ok-name_end.full_start c.in_ok-name_end.full_end c.in_ok-name_end.f c.in_ok-name_end.was) _ c.in_ok-p.q (sym c.word_here.ensures.is ∙ ap (word_is c.args.file.now) c.in_ok-p.was) c.word-word.result c.word-word.ensures c.args.n c.in_ok-tail.tail (tail_of c.args.file.now _ _ _ c.args.n.items tp.tail c.in_ok-tail.tail c.in_ok-tail.was) c.requires.0.items (ap (λ k. path_fits k (parts c.in_ok-tail.tail.c).low c.in_ok-tail.tail.count) (sym c.definition_number-kind.ensures) ∙ sym c.path_fits.ensures ∙ c.if-not-path_fits.true) }
+    record { left = behind_left c.args.n c.requires.0 tp.behind; line = definition_no_path c.args.file.now _ (parts c.in_ok-scope.scope) (parts c.in_ok-scope.name) (parts c.in_ok-scope.name_start) c.in_ok-scope.e (three_found c.args.file.now _ Kind.Number Kind.Name Kind.Position c.three_words.result c.three_words.ensures c.in_ok-scope.scope c.in_ok-scope.name c.in_ok-scope.name_start c.in_ok-scope.e c.in_ok-scope.was) (parts c.in_ok-name_end.name_end) (parts c.in_ok-name_end.full_start) (parts c.in_ok-name_end.full_end) c.in_ok-name_end.f (three_found c.args.file.now _ Kind.Position Kind.Position Kind.Position c.three_words-2.result c.three_words-2.ensures c.in_ok-name_end.name_end c.in_ok-name_end.full_start c.in_ok-name_end.full_end c.in_ok-name_end.f c.in_ok-name_end.was) _ c.in_ok-p.q (sym c.word_here.ensures.is ∙ ap (word_is c.args.file.now) c.in_ok-p.was) c.word-word.result c.word-word.ensures c.args.n c.in_ok-tail.tail (tail_of c.args.file.now _ _ _ c.args.n.items tp.tail c.in_ok-tail.tail c.in_ok-tail.was) c.requires.0.items (ap (λ k. path_fits k (parts c.in_ok-tail.tail.c).low c.in_ok-tail.tail.count) (sym (number_kept 7 _ _ c.definition_number.ensures c.in_ok-kind.kind c.in_ok-kind.was).0) ∙ sym c.path_fits.ensures ∙ c.if-not-path_fits.true) }
 
 pub returns : goal.returns
 returns c =
     let tp = tail_put_as {words' = c.read_tail.new.words} c.definition_shape.ensures c.read_tail.ensures in
-    definition_put_as c.args.file.now _ (parts c.in_ok-scope.scope) (parts c.in_ok-scope.name) (parts c.in_ok-scope.name_start) c.in_ok-scope.e (three_found c.args.file.now _ Kind.Number Kind.Name Kind.Position c.three_words.result c.three_words.ensures c.in_ok-scope.scope c.in_ok-scope.name c.in_ok-scope.name_start c.in_ok-scope.e c.in_ok-scope.was) (parts c.in_ok-name_end.name_end) (parts c.in_ok-name_end.full_start) (parts c.in_ok-name_end.full_end) c.in_ok-name_end.f (three_found c.args.file.now _ Kind.Position Kind.Position Kind.Position c.three_words-2.result c.three_words-2.ensures c.in_ok-name_end.name_end c.in_ok-name_end.full_start c.in_ok-name_end.full_end c.in_ok-name_end.f c.in_ok-name_end.was) _ c.in_ok-p.q (sym c.word_here.ensures.is ∙ ap (word_is c.args.file.now) c.in_ok-p.was) c.word-word.result c.word-word.ensures c.args.n c.in_ok-tail.tail (tail_of c.args.file.now _ _ _ c.args.n.items tp.tail c.in_ok-tail.tail c.in_ok-tail.was) c.requires.0.items c.requires.0 c.requires.1 (λ e. c.if-kind-eq7.false (c.definition_number-kind.ensures ∙ e)) (ap (λ k. path_fits k (parts c.in_ok-tail.tail.c).low c.in_ok-tail.tail.count) (sym c.definition_number-kind.ensures) ∙ sym c.path_fits.ensures ∙ c.if-not-path_fits.false) tp.behind (put_ends c.definition_number-kind.ensures refl c.put_four.ensures) c.put_four-2.ensures c.put_four-3.ensures
+    definition_put_as c.args.file.now _ (parts c.in_ok-scope.scope) (parts c.in_ok-scope.name) (parts c.in_ok-scope.name_start) c.in_ok-scope.e (three_found c.args.file.now _ Kind.Number Kind.Name Kind.Position c.three_words.result c.three_words.ensures c.in_ok-scope.scope c.in_ok-scope.name c.in_ok-scope.name_start c.in_ok-scope.e c.in_ok-scope.was) (parts c.in_ok-name_end.name_end) (parts c.in_ok-name_end.full_start) (parts c.in_ok-name_end.full_end) c.in_ok-name_end.f (three_found c.args.file.now _ Kind.Position Kind.Position Kind.Position c.three_words-2.result c.three_words-2.ensures c.in_ok-name_end.name_end c.in_ok-name_end.full_start c.in_ok-name_end.full_end c.in_ok-name_end.f c.in_ok-name_end.was) _ c.in_ok-p.q (sym c.word_here.ensures.is ∙ ap (word_is c.args.file.now) c.in_ok-p.was) c.word-word.result c.word-word.ensures c.args.n c.in_ok-tail.tail (tail_of c.args.file.now _ _ _ c.args.n.items tp.tail c.in_ok-tail.tail c.in_ok-tail.was) c.requires.0.items c.requires.0 c.requires.1 (number_kept 7 _ _ c.definition_number.ensures c.in_ok-kind.kind c.in_ok-kind.was).1 (ap (λ k. path_fits k (parts c.in_ok-tail.tail.c).low c.in_ok-tail.tail.count) (sym (number_kept 7 _ _ c.definition_number.ensures c.in_ok-kind.kind c.in_ok-kind.was).0) ∙ sym c.path_fits.ensures ∙ c.if-not-path_fits.false) tp.behind (put_ends (number_kept 7 _ _ c.definition_number.ensures c.in_ok-kind.kind c.in_ok-kind.was).0 refl c.put_four.ensures) c.put_four-2.ensures c.put_four-3.ensures
