@@ -12,22 +12,26 @@ fn finish(file: &[u8], words: &mut [u32], n: Counts, version: u32)
     requires { Fine file.now words.old n }
     ensures { Finished words.old n version words.new }
 {
-    rows::put_four(
+    rows::put(
         words,
         0,
-        n.modules as u32,
-        n.questions as u32,
-        n.items as u32,
-        version,
+        &[
+            n.modules as u32,
+            n.questions as u32,
+            n.items as u32,
+            version,
+        ],
     );
     let row = records::MODULES + 8 * n.modules;
-    rows::put_four(
+    rows::put(
         words,
         row + 1,
-        n.scopes as u32,
-        n.types as u32,
-        n.definitions as u32,
-        n.expressions as u32,
+        &[
+            n.scopes as u32,
+            n.types as u32,
+            n.definitions as u32,
+            n.expressions as u32,
+        ],
     );
 }
 

@@ -86,22 +86,12 @@ fn last_word(shape: Shape, tail: Tail) -> u32
 
 // ------------------------------------------------------------------ rows
 
-fn put_two(words: &mut [u32], at: usize, a: u32, b: u32)
-    requires { at + 2 ≤ length words.old }
-    ensures { Put words.old at (a ∷ b ∷ []) words.new }
+// Puts the words of a row from `at` on.
+pub fn put(words: &mut [u32], at: usize, row: &[u32])
+    requires { at + length row.now ≤ length words.old }
+    ensures { Put words.old at row.now words.new }
 {
-    words[at] = a;
-    words[at + 1] = b;
-}
-
-pub fn put_four(words: &mut [u32], at: usize, a: u32, b: u32, c: u32, d: u32)
-    requires { at + 4 ≤ length words.old }
-    ensures { Put words.old at (a ∷ b ∷ c ∷ d ∷ []) words.new }
-{
-    words[at] = a;
-    words[at + 1] = b;
-    words[at + 2] = c;
-    words[at + 3] = d;
+    words[at..at + row.len()].copy_from_slice(row);
 }
 
 // Each of the six gives how many items the line's list has, and where its fields end.
@@ -113,9 +103,18 @@ pub fn read_module(file: &[u8], at: usize, words: &mut [u32], n: Counts) -> Opti
 {
     let tail = read_tail(file, shapes::module_shape(), at, words, n.items)?;
     let row = records::MODULES + 8 * n.modules;
-    put_two(words, row, (tail.a % HIGH) as u32, n.scopes as u32);
-    put_two(words, row + 2, n.types as u32, n.definitions as u32);
-    put_two(words, row + 4, n.expressions as u32, 0);
+    put(
+        words,
+        row,
+        &[
+            (tail.a % HIGH) as u32,
+            n.scopes as u32,
+            n.types as u32,
+            n.definitions as u32,
+            n.expressions as u32,
+            0,
+        ],
+    );
     Some((tail.count, tail.end))
 }
 
@@ -141,11 +140,10 @@ pub fn read_scope(file: &[u8], at: usize, words: &mut [u32], n: Counts) -> Optio
     if !scope_fits((parent % HIGH) as u32, word) {
         return None;
     }
-    put_two(
+    put(
         words,
         records::SCOPES + 2 * n.scopes,
-        (parent % HIGH) as u32,
-        shapes::scope_number(word),
+        &[(parent % HIGH) as u32, shapes::scope_number(word)],
     );
     Some((tail.count, tail.end))
 }
@@ -160,13 +158,15 @@ pub fn read_type(file: &[u8], at: usize, words: &mut [u32], n: Counts) -> Option
     let shape = shapes::type_shape(word);
     let tail = read_tail(file, shape, q, words, n.items)?;
     let kind = shapes::type_number(word)?;
-    put_four(
+    put(
         words,
         records::TYPE_EXPRS + 4 * n.types,
-        kind,
-        (tail.a % HIGH) as u32,
-        (tail.b % HIGH) as u32,
-        last_word(shape, tail),
+        &[
+            kind,
+            (tail.a % HIGH) as u32,
+            (tail.b % HIGH) as u32,
+            last_word(shape, tail),
+        ],
     );
     Some((tail.count, tail.end))
 }
@@ -210,29 +210,23 @@ pub fn read_definition(
         return None;
     }
     let row = records::DEFINITIONS + 12 * n.definitions;
-    put_four(
+    put(
         words,
         row,
-        kind,
-        (scope % HIGH) as u32,
-        (name % HIGH) as u32,
-        (name_start % HIGH) as u32,
-    );
-    put_four(
-        words,
-        row + 4,
-        (name_end % HIGH) as u32,
-        (full_start % HIGH) as u32,
-        (full_end % HIGH) as u32,
-        (tail.a % HIGH) as u32,
-    );
-    put_four(
-        words,
-        row + 8,
-        (tail.b % HIGH) as u32,
-        (tail.c % HIGH) as u32,
-        tail.list,
-        0,
+        &[
+            kind,
+            (scope % HIGH) as u32,
+            (name % HIGH) as u32,
+            (name_start % HIGH) as u32,
+            (name_end % HIGH) as u32,
+            (full_start % HIGH) as u32,
+            (full_end % HIGH) as u32,
+            (tail.a % HIGH) as u32,
+            (tail.b % HIGH) as u32,
+            (tail.c % HIGH) as u32,
+            tail.list,
+            0,
+        ],
     );
     Some((tail.count, tail.end))
 }
@@ -246,13 +240,15 @@ pub fn read_question(file: &[u8], at: usize, words: &mut [u32], n: Counts) -> Op
     let word: QuestionWord = words::word(&file[p..q]);
     let tail = read_tail(file, shapes::question_shape(word), q, words, n.items)?;
     let kind = shapes::question_number(word)?;
-    put_four(
+    put(
         words,
         records::QUESTIONS + 4 * n.questions,
-        kind,
-        (tail.a % HIGH) as u32,
-        (tail.b % HIGH) as u32,
-        (tail.c % HIGH) as u32,
+        &[
+            kind,
+            (tail.a % HIGH) as u32,
+            (tail.b % HIGH) as u32,
+            (tail.c % HIGH) as u32,
+        ],
     );
     Some((tail.count, tail.end))
 }
@@ -301,28 +297,22 @@ pub fn read_expression(
     let tail = read_tail(file, shape, q, words, n.items)?;
     let node = shapes::node_number(word)?;
     let row = records::EXPRESSIONS + 11 * n.expressions;
-    put_four(
+    put(
         words,
         row,
-        node + 256 * origin,
-        (scope % HIGH) as u32,
-        (start % HIGH) as u32,
-        (end % HIGH) as u32,
+        &[
+            node + 256 * origin,
+            (scope % HIGH) as u32,
+            (start % HIGH) as u32,
+            (end % HIGH) as u32,
+            (expected % HIGH) as u32,
+            (definition % HIGH) as u32,
+            link,
+            value,
+            (tail.a % HIGH) as u32,
+            (tail.b % HIGH) as u32,
+            last_word(shape, tail),
+        ],
     );
-    put_four(
-        words,
-        row + 4,
-        (expected % HIGH) as u32,
-        (definition % HIGH) as u32,
-        link,
-        value,
-    );
-    put_two(
-        words,
-        row + 8,
-        (tail.a % HIGH) as u32,
-        (tail.b % HIGH) as u32,
-    );
-    words[row + 10] = last_word(shape, tail);
     Some((tail.count, tail.end))
 }

@@ -12,4 +12,4 @@ returns-in_err-tail c =
 pub returns : goal.returns
 returns c =
     let tp = tail_put_as {words' = c.read_tail.new.words} c.module_shape.ensures c.read_tail.ensures in
-    module_put_as c.args.file.now _ c.args.n c.in_ok-tail.tail (tail_of c.args.file.now _ _ _ c.args.n.items tp.tail c.in_ok-tail.tail c.in_ok-tail.was) c.requires.0 c.requires.1 tp.behind c.put_two.ensures c.put_two-2.ensures c.put_two-3.ensures
+    module_put_as c.args.file.now _ c.args.n c.in_ok-tail.tail (tail_of c.args.file.now _ _ _ c.args.n.items tp.tail c.in_ok-tail.tail c.in_ok-tail.was) c.requires.0 c.requires.1 tp.behind c.put.ensures

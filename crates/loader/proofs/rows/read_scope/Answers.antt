@@ -30,4 +30,4 @@ returns-then-not-scope_fits c =
 pub returns : goal.returns
 returns c =
     let tp = tail_put_as {words' = c.read_tail.new.words} c.bare.ensures c.read_tail.ensures in
-    scope_put_as c.args.file.now _ (parts c.in_ok-parent.parent).low c.in_ok-parent.e (words_found c.args.file.now _ Kind.MaybeNumber c.slot_words.result c.slot_words.ensures c.in_ok-parent.parent c.in_ok-parent.e c.in_ok-parent.was) _ c.in_ok-p.q (sym c.word_here.ensures.is ∙ ap (word_is c.args.file.now) c.in_ok-p.was) c.word-word.result c.word-word.ensures c.args.n c.in_ok-tail.tail (tail_of c.args.file.now _ _ _ c.args.n.items tp.tail c.in_ok-tail.tail c.in_ok-tail.was) c.requires.0 c.requires.1 (sym c.scope_fits.ensures ∙ c.if-not-scope_fits.false) tp.behind (put_second c.scope_number.ensures c.put_two.ensures)
+    scope_put_as c.args.file.now _ (parts c.in_ok-parent.parent).low c.in_ok-parent.e (words_found c.args.file.now _ Kind.MaybeNumber c.slot_words.result c.slot_words.ensures c.in_ok-parent.parent c.in_ok-parent.e c.in_ok-parent.was) _ c.in_ok-p.q (sym c.word_here.ensures.is ∙ ap (word_is c.args.file.now) c.in_ok-p.was) c.word-word.result c.word-word.ensures c.args.n c.in_ok-tail.tail (tail_of c.args.file.now _ _ _ c.args.n.items tp.tail c.in_ok-tail.tail c.in_ok-tail.was) c.requires.0 c.requires.1 (sym c.scope_fits.ensures ∙ c.if-not-scope_fits.false) tp.behind (put_second c.scope_number.ensures c.put.ensures)
