@@ -18,7 +18,9 @@ ghost use Rattle.records.specs.Meaning.{name_of, scope_link_of, definition_link_
 ghost use Rattle.records.specs.Meaning.{definition_of, definition_kind_of};
 ghost use Rattle.semantic_index.specs.Meaning.{best_of, FirstInChain};
 
-use records::{Definition, DefinitionIndex, DefinitionKind, ExpressionId, FileScopeId, Name};
+use records::{
+    Definition, DefinitionIndex, DefinitionKind, ExpressionId, FileScopeId, Index, Name,
+};
 
 // ------------------------------------------------------------------ scopes
 
@@ -56,13 +58,13 @@ pub fn root_scope(words: &[u32], m: u32) -> Option<FileScopeId>
 // ------------------------------------------------------------------ modules
 
 // The module of that name; names differ.
-pub fn module_by_name(file: &[u8], words: &[u32], name: Name) -> Option<u32>
+pub fn module_by_name(index: &Index, name: Name) -> Option<u32>
     ensures { result
-        ≡ module_by_name (index_of file.now words.now) (name_of file.now name) }
+        ≡ module_by_name (index_of index.now.file.now index.now.words.now) (name_of index.now.file.now name) }
 {
-    let count = records::module_count(words);
+    let count = records::module_count(index.words);
     for m in 0..count {
-        if names::same_name(file, records::module_name(words, m), name) {
+        if names::same_name(index.file, records::module_name(index.words, m), name) {
             return Some(m);
         }
     }
@@ -72,35 +74,38 @@ pub fn module_by_name(file: &[u8], words: &[u32], name: Name) -> Option<u32>
 // ------------------------------------------------------------------ definitions by name
 
 // Whether definition `d` of a module, whose definitions begin at row `first`, is one of the name in the scope.
-fn is_named(file: &[u8], words: &[u32], first: u32, d: u32, s: FileScopeId, name: Name) -> bool
+fn is_named(index: &Index, first: u32, d: u32, s: FileScopeId, name: Name) -> bool
     ensures { result
-        ≡ named s.0 (name_of file.now name)
-        (definition_row file.now words.now (first + d)) }
+        ≡ named s.0 (name_of index.now.file.now name)
+        (definition_row index.now.file.now index.now.words.now (first + d)) }
 {
-    let scope = records::definition_scope(words, first, d);
+    let scope = records::definition_scope(index.words, first, d);
     if scope.0 != s.0 {
         return false;
     }
-    names::same_name(file, records::definition_name(words, first, d), name)
+    names::same_name(
+        index.file,
+        records::definition_name(index.words, first, d),
+        name,
+    )
 }
 
 // The scope's last definition of the name.
 pub fn latest_definition_index_by_name(
-    file: &[u8],
-    words: &[u32],
+    index: &Index,
     m: u32,
     s: FileScopeId,
     name: Name,
 ) -> Option<DefinitionIndex>
     ensures { definition_link_of result
-        ≡ latest_definition_index_by_name (module_row file.now words.now m) s.0
-        (name_of file.now name) }
+        ≡ latest_definition_index_by_name (module_row index.now.file.now index.now.words.now m) s.0
+        (name_of index.now.file.now name) }
 {
-    let rows = records::rows_of(words, m, records::DEFINITION_ROWS);
+    let rows = records::rows_of(index.words, m, records::DEFINITION_ROWS);
     let first = rows.first;
     let count = rows.count;
     for d in (0..count).rev() {
-        if is_named(file, words, first, d, s, name) {
+        if is_named(index, first, d, s, name) {
             return Some(DefinitionIndex(d));
         }
     }
@@ -131,21 +136,20 @@ fn first_in_chain<F: Fn(FileScopeId) -> Option<DefinitionIndex>>(
 
 // The scope's last definition of the name, or that of the first scope of the chain that has one.
 pub fn latest_definition_index_by_name_in_chain(
-    file: &[u8],
-    words: &[u32],
+    index: &Index,
     m: u32,
     s: FileScopeId,
     name: Name,
 ) -> Option<DefinitionIndex>
     ensures { definition_link_of result
-        ≡ latest_definition_index_by_name_in_chain (module_row file.now words.now m) s.0
-        (name_of file.now name) }
+        ≡ latest_definition_index_by_name_in_chain (module_row index.now.file.now index.now.words.now m) s.0
+        (name_of index.now.file.now name) }
 {
     first_in_chain(
-        words,
+        index.words,
         m,
         s,
-        |scope| latest_definition_index_by_name(file, words, m, scope, name),
+        |scope| latest_definition_index_by_name(index, m, scope, name),
     )
 }
 
@@ -223,8 +227,7 @@ fn visible_at(words: &[u32], m: u32, definition: Definition, start: u32, end: u3
 
 // Whether a definition of the module is one of the name in the scope, and visible at the span.
 fn is_named_and_visible(
-    file: &[u8],
-    words: &[u32],
+    index: &Index,
     m: u32,
     first: u32,
     d: u32,
@@ -234,17 +237,17 @@ fn is_named_and_visible(
     end: u32,
 ) -> bool
     ensures { result
-        ≡ named_and_visible (module_row file.now words.now m) s.0
-        (name_of file.now name) start end
-        (definition_row file.now words.now (first + d)) }
+        ≡ named_and_visible (module_row index.now.file.now index.now.words.now m) s.0
+        (name_of index.now.file.now name) start end
+        (definition_row index.now.file.now index.now.words.now (first + d)) }
 {
-    if !is_named(file, words, first, d, s, name) {
+    if !is_named(index, first, d, s, name) {
         return false;
     }
     visible_at(
-        words,
+        index.words,
         m,
-        records::definition_row(words, first, d),
+        records::definition_row(index.words, first, d),
         start,
         end,
     )
@@ -252,8 +255,7 @@ fn is_named_and_visible(
 
 // One turn of `resolve_name_at_position`: the scope's last definition of the name that is visible at the span.
 fn latest_visible_by_name(
-    file: &[u8],
-    words: &[u32],
+    index: &Index,
     m: u32,
     s: FileScopeId,
     name: Name,
@@ -261,14 +263,14 @@ fn latest_visible_by_name(
     end: u32,
 ) -> Option<DefinitionIndex>
     ensures { definition_link_of result
-        ≡ latest_visible_by_name (module_row file.now words.now m) s.0
-        (name_of file.now name) start end }
+        ≡ latest_visible_by_name (module_row index.now.file.now index.now.words.now m) s.0
+        (name_of index.now.file.now name) start end }
 {
-    let rows = records::rows_of(words, m, records::DEFINITION_ROWS);
+    let rows = records::rows_of(index.words, m, records::DEFINITION_ROWS);
     let first = rows.first;
     let count = rows.count;
     for d in (0..count).rev() {
-        if is_named_and_visible(file, words, m, first, d, s, name, start, end) {
+        if is_named_and_visible(index, m, first, d, s, name, start, end) {
             return Some(DefinitionIndex(d));
         }
     }
@@ -277,8 +279,7 @@ fn latest_visible_by_name(
 
 // In the first scope of the chain that has one.
 pub fn resolve_name_at_position(
-    file: &[u8],
-    words: &[u32],
+    index: &Index,
     m: u32,
     name: Name,
     s: FileScopeId,
@@ -286,14 +287,14 @@ pub fn resolve_name_at_position(
     end: u32,
 ) -> Option<DefinitionIndex>
     ensures { definition_link_of result
-        ≡ resolve_name_at_position (module_row file.now words.now m)
-        (name_of file.now name) s.0 start end }
+        ≡ resolve_name_at_position (module_row index.now.file.now index.now.words.now m)
+        (name_of index.now.file.now name) s.0 start end }
 {
     first_in_chain(
-        words,
+        index.words,
         m,
         s,
-        |scope| latest_visible_by_name(file, words, m, scope, name, start, end),
+        |scope| latest_visible_by_name(index, m, scope, name, start, end),
     )
 }
 

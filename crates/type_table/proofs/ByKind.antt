@@ -7,7 +7,9 @@ use Rattle.std.specs.Prelude.{None}
 use types.Run.{miss}
 use borrow.Enum.Refused.{Among, opened}
 use denote.Enum.Declared.{tag_of}
-use Rattle.resolution.specs.Types.{kind_number, is_u32_or_felt, as_tuple, as_pointer, as_array, as_struct, as_function}
+use Rattle.model.specs.Common.{let_some}
+use Rattle.resolution.specs.TypeData.{TypeData}
+use Rattle.resolution.specs.Types.{error, kind_number, is_u32_or_felt, as_tuple, as_pointer, as_array, as_struct, as_function}
 use Rattle.type_table.specs.declared.TypeData.{TypeData as Row}
 use Rattle.type_table.specs.Meaning.{data_is}
 use Rattle.type_table.specs.contracts.TypeData.{the_type}
@@ -25,19 +27,6 @@ other_than_tuple file w (Row.FixedArray u size) h = refl
 other_than_tuple file w (Row.Struct m d list) h = refl
 other_than_tuple file w (Row.Function m d list u) h = refl
 
-pub other_than_pointer : (file w : List ℕ) (row : Row) → Among (0 ∷ 1 ∷ 2 ∷ 3 ∷ 4 ∷ 5 ∷ 7 ∷ 8 ∷ 9 ∷ []) (tag_of the_type row) → None ≡ as_pointer (data_is file w row)
-unfolding as_pointer
-other_than_pointer file w Row.Felt h = refl
-other_than_pointer file w Row.«Bool» h = refl
-other_than_pointer file w Row.U32 h = refl
-other_than_pointer file w Row.Unknown h = refl
-other_than_pointer file w Row.Error h = refl
-other_than_pointer file w (Row.Tuple list) h = refl
-other_than_pointer file w (Row.Pointer u) h = absurd (miss (0 ∷ 1 ∷ 2 ∷ 3 ∷ 4 ∷ 5 ∷ 7 ∷ 8 ∷ 9 ∷ []) 6 tt (opened h))
-other_than_pointer file w (Row.FixedArray u size) h = refl
-other_than_pointer file w (Row.Struct m d list) h = refl
-other_than_pointer file w (Row.Function m d list u) h = refl
-
 pub other_than_array : (file w : List ℕ) (row : Row) → Among (0 ∷ 1 ∷ 2 ∷ 3 ∷ 4 ∷ 5 ∷ 6 ∷ 8 ∷ 9 ∷ []) (tag_of the_type row) → None ≡ as_array (data_is file w row)
 unfolding as_array
 other_than_array file w Row.Felt h = refl
@@ -50,6 +39,23 @@ other_than_array file w (Row.Pointer u) h = refl
 other_than_array file w (Row.FixedArray u size) h = absurd (miss (0 ∷ 1 ∷ 2 ∷ 3 ∷ 4 ∷ 5 ∷ 6 ∷ 8 ∷ 9 ∷ []) 7 tt (opened h))
 other_than_array file w (Row.Struct m d list) h = refl
 other_than_array file w (Row.Function m d list u) h = refl
+
+-- the element of an array or a pointer
+abbrev pub element_of : TypeData → ℕ
+element_of row = let_some (as_array row) (let_some (as_pointer row) error (λ u. u)) (λ element. element.element)
+
+pub other_than_element : (file w : List ℕ) (row : Row) → Among (0 ∷ 1 ∷ 2 ∷ 3 ∷ 4 ∷ 5 ∷ 8 ∷ 9 ∷ []) (tag_of the_type row) → error ≡ element_of (data_is file w row)
+unfolding as_array as_pointer
+other_than_element file w Row.Felt h = refl
+other_than_element file w Row.«Bool» h = refl
+other_than_element file w Row.U32 h = refl
+other_than_element file w Row.Unknown h = refl
+other_than_element file w Row.Error h = refl
+other_than_element file w (Row.Tuple list) h = refl
+other_than_element file w (Row.Pointer u) h = absurd (miss (0 ∷ 1 ∷ 2 ∷ 3 ∷ 4 ∷ 5 ∷ 8 ∷ 9 ∷ []) 6 tt (opened h))
+other_than_element file w (Row.FixedArray u size) h = absurd (miss (0 ∷ 1 ∷ 2 ∷ 3 ∷ 4 ∷ 5 ∷ 8 ∷ 9 ∷ []) 7 tt (opened h))
+other_than_element file w (Row.Struct m d list) h = refl
+other_than_element file w (Row.Function m d list u) h = refl
 
 pub other_than_struct : (file w : List ℕ) (row : Row) → Among (0 ∷ 1 ∷ 2 ∷ 3 ∷ 4 ∷ 5 ∷ 6 ∷ 7 ∷ 9 ∷ []) (tag_of the_type row) → None ≡ as_struct (data_is file w row)
 unfolding as_struct

@@ -4,20 +4,20 @@ use mathlib.Core.Path.{◌≡◌, refl, sym, ap, subst, subst⁻¹, ◌∙◌}
 use mathlib.Core.Bool.{Bool, true, false}
 use mathlib.Core.List.Memᴰ
 use mathlib.Core.List.{List, [], ◌∷◌, ◌++◌, Memᴰ}
-use Rattle.std.specs.Prelude.{Option, None, Some}
+use Rattle.std.specs.Prelude.{Option, None, Some, Result, Ok, Err}
 use native.Mathlib.Nat.{not-suc-le-zero, le_of_suc-le-suc}
 use native.Mathlib.Omega.{arith}
 use lib.ListN.{length}
 use lib.Seq.{get_or_at}
 use borrow.Author.Tests.{leb-true, leb-false}
 use lib.Dec.{leb}
+use Rattle.refusals.specs.declared.Refusal.{Refusal}
 use Rattle.resolution.specs.TypeData.{TypeData}
 use Rattle.resolution.specs.Types.{Table, data_of, find_type, has_room}
 use Rattle.resolution.specs.Run.{answered, refused}
 use Rattle.resolution.specs.TableOk.{row_types, TableOk, Below, OutcomeOk}
 use Rattle.resolution.proofs.RunLaws.{enter_found, enter_new, enter_no_room}
 use Rattle.resolution.proofs.Tables.{enter_ok}
-use Rattle.type_table.specs.declared.Resolved.{Resolved}
 use Rattle.type_table.specs.Layout.{type_count, table_of, AllBelow, Sound}
 use Rattle.type_table.specs.Promises.{Interns, outcome_of}
 use Rattle.type_table.proofs.Rows.{data_below, data_past}
@@ -54,7 +54,7 @@ last_data : (table : Table) (row : TypeData) (t : ℕ) → length table ≡ t �
 unfolding data_of
 last_data table row t e = get_or_at table row [] TypeData.Error t e
 
-module _ {file : List ℕ} {row : TypeData} {w w' : List ℕ} {r : Resolved} (i : Interns file row w w' r) (ok : TableOk (table_of file w)) where
+module _ {file : List ℕ} {row : TypeData} {w w' : List ℕ} {r : Result ℕ Refusal} (i : Interns file row w w' r) (ok : TableOk (table_of file w)) where
   -- a row that has entered has types below its number inside
   entered_inner : table_of file w' ≡ table_of file w ++ (row ∷ []) → (u : ℕ) → Memᴰ u (row_types row) → Below (table_of file w) u
   entered_inner e u named =
@@ -63,13 +63,13 @@ module _ {file : List ℕ} {row : TypeData} {w w' : List ℕ} {r : Resolved} (i 
       (ap (λ (l : Table). data_of l (length (table_of file w))) e ∙ last_data (table_of file w) row (length (table_of file w)) refl)
       (lower file w' i.sound (length (table_of file w)))) u named
 
-  by_outcome : (r' : Resolved) → r ≡ r' → (t : ℕ) (table' : Table) → outcome_of file r' w' ≡ answered t table' → table_of file w' ≡ table'
-  by_outcome (Resolved.Answered n) same t table' e = cc
-  by_outcome (Resolved.Refused n) same t table' e = let z : ◌≡◌ {A = ℕ} 0 1 = cc in absurd (omega arith)
+  by_outcome : (r' : Result ℕ Refusal) → r ≡ r' → (t : ℕ) (table' : Table) → outcome_of file r' w' ≡ answered t table' → table_of file w' ≡ table'
+  by_outcome (Ok t') same t table' e = cc
+  by_outcome (Err refusal) same t table' e = let z : ◌≡◌ {A = ℕ} 0 1 = cc in absurd (omega arith)
 
-  by_refusal : (r' : Resolved) → r ≡ r' → (n : ℕ) → outcome_of file r' w' ≡ refused n → w' ≡ w
-  by_refusal (Resolved.Answered m) same n e = let z : ◌≡◌ {A = ℕ} 0 1 = cc in absurd (omega arith)
-  by_refusal (Resolved.Refused m) same n e = i.kept m same
+  by_refusal : (r' : Result ℕ Refusal) → r ≡ r' → (n : ℕ) → outcome_of file r' w' ≡ refused n → w' ≡ w
+  by_refusal (Ok t) same n e = let z : ◌≡◌ {A = ℕ} 0 1 = cc in absurd (omega arith)
+  by_refusal (Err refusal) same n e = i.kept refusal same
 
   pub interned_ok : TableOk (table_of file w')
   interned_ok = go (find_type (table_of file w) row) refl (has_room (table_of file w) row) refl

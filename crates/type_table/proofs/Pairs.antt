@@ -5,6 +5,7 @@ use mathlib.Core.Bool.{Bool, true, false, ◌&&◌}
 use mathlib.Core.List.{List, [], ◌∷◌, map}
 use native.Mathlib.Numerals.{add-one}
 use lib.Dec.{eqb}
+use lib.Pointwise.{pointwise}
 use lib.ListN.{length, get_or, drop, drop_of_length-le}
 use lib.Seq.{drop-cons}
 use Rattle.model.specs.Common.{eq_numbers}
@@ -52,12 +53,13 @@ pairs_length test (x ∷ xs) [] other = refl
 pairs_length test (x ∷ xs) (y ∷ ys) other =
     ap (λ r. test x y && r) (pairs_length test xs ys (λ e. other (ap suc e))) ∙ and_false (test x y)
 
-pub pairs_numbers : (a b : List ℕ) → eq_numbers a b ≡ all_pairs eqb a b
-unfolding all_pairs eq_numbers
-pairs_numbers [] [] = refl
-pairs_numbers [] (y ∷ ys) = refl
-pairs_numbers (x ∷ xs) [] = refl
-pairs_numbers (x ∷ xs) (y ∷ ys) = numbers_cons x y xs ys ∙ ap (λ r. eqb x y && r) (pairs_numbers xs ys)
+-- `==` of two slices of numbers
+pub same_numbers : (a b : List ℕ) → pointwise eqb a b ≡ eq_numbers a b
+unfolding eq_numbers
+same_numbers [] [] = refl
+same_numbers [] (y ∷ ys) = refl
+same_numbers (x ∷ xs) [] = refl
+same_numbers (x ∷ xs) (y ∷ ys) = ap (λ r. eqb x y && r) (same_numbers xs ys) ∙ sym (numbers_cons x y xs ys)
 
 pub pairs_names : (f : ℕ → Name) (a b : List ℕ) → eq_names (map f a) (map f b) ≡ all_pairs (λ x y. eq_numbers (f x) (f y)) a b
 unfolding all_pairs eq_names

@@ -1,8 +1,8 @@
 -- What the reads of the table give, by what the row of a type is. Assumes nothing.
 use Prim.Native.Nat.{ℕ, ◌+◌, ◌-◌, ◌≤◌, ◌<◌, zero-le}
-use mathlib.Core.Path.{◌≡◌, sym, ap, subst, ◌∙◌}
+use mathlib.Core.Path.{◌≡◌, refl, sym, ap, subst, ◌∙◌}
 use mathlib.Core.List.{List, [], ◌∷◌}
-use Rattle.std.specs.Prelude.{Option, None, Some}
+use Rattle.std.specs.Prelude.{Option, None, Some, unwrap_or}
 use native.Mathlib.Omega.{arith}
 use borrow.Author.Tests.{eq-eqb, ne_eqb}
 use lib.Dec.{eqb}
@@ -14,43 +14,34 @@ use Rattle.std.specs.Prelude.{if◌then◌else◌}
 use Rattle.model.specs.Common.{let_some}
 use Rattle.records.specs.Layout.{item_value, numbers_at}
 use Rattle.records.proofs.Lists.{each_begun, each_unroll, each_ended}
-use Rattle.resolution.specs.Types.{Table, error, data_of, is_u32_or_felt, as_tuple, as_pointer, as_array, as_struct, as_function}
+use Rattle.resolution.specs.Types.{Table, error, data_of, is_u32_or_felt, as_tuple, as_array, as_pointer, as_struct, as_function}
 use Rattle.resolution.specs.Views.{numeric, navigate, element_contexts}
 use Rattle.type_table.specs.declared.TypeList.{TypeList}
 use Rattle.type_table.specs.declared.TypeData.{TypeData as Row}
-use Rattle.type_table.specs.declared.FoundList.{FoundList}
-use Rattle.type_table.specs.declared.FoundSignature.{FoundSignature}
 use Rattle.type_table.specs.Layout.{types_of, table_of, Sound}
 use Rattle.type_table.specs.Meaning.{fields_in, data_is, list_of, no_types, found_types_of}
-use Rattle.type_table.specs.Reads.{array_read, numeric_read}
+use Rattle.type_table.specs.Reads.{array_read, element_read, numeric_read}
 use Rattle.type_table.specs.Promises.{Reads, Within, DataRead, TupleRead, SignatureRead, ContextsRead}
 use Rattle.type_table.specs.contracts.TypeData.{the_type}
-use Rattle.type_table.proofs.ByKind.{other_than_tuple, other_than_pointer, other_than_array, other_than_struct, other_than_function, u32_or_felt, other_than_u32_or_felt}
+use Rattle.type_table.proofs.ByKind.{element_of, other_than_tuple, other_than_array, other_than_element, other_than_struct, other_than_function, u32_or_felt, other_than_u32_or_felt}
 
 module _ {w : List ℕ} {t : ℕ} {row : Row} (r : DataRead w t row) where
   -- a list that a row holds lies within the items
   row_within : (file : List ℕ) → Sound file w → {row' : Row} → row ≡ row' → Within w (list_of row')
   row_within file sound e = subst (λ x. Within w (list_of x)) e (r.within file sound)
 
-  pub tuple_found : {list : TypeList} → row ≡ Row.Tuple list → TupleRead w t (FoundList.Found list)
+  pub tuple_found : {list : TypeList} → row ≡ Row.Tuple list → TupleRead w t (Some list)
   unfolding as_tuple
   tuple_found {list} e = record {
     same = λ file. ap (λ x. as_tuple (data_is file w x)) (sym e) ∙ ap as_tuple (r.same file);
     within = λ file sound list' h. let same : list ≡ list' = cc in subst (Within w) same (row_within file sound e);
   }
 
-  pub tuple_absent : Among (0 ∷ 1 ∷ 2 ∷ 3 ∷ 4 ∷ 6 ∷ 7 ∷ 8 ∷ 9 ∷ []) (tag_of the_type row) → TupleRead w t FoundList.Absent
+  pub tuple_absent : Among (0 ∷ 1 ∷ 2 ∷ 3 ∷ 4 ∷ 6 ∷ 7 ∷ 8 ∷ 9 ∷ []) (tag_of the_type row) → TupleRead w t None
   tuple_absent h = record {
     same = λ file. other_than_tuple file w row h ∙ ap as_tuple (r.same file);
     within = λ file sound list e. let z : ◌≡◌ {A = ℕ} 0 1 = cc in absurd (omega arith);
   }
-
-  pub pointer_found : {u : ℕ} → row ≡ Row.Pointer u → (file : List ℕ) → Some u ≡ as_pointer (data_of (table_of file w) t)
-  unfolding as_pointer
-  pointer_found e file = ap (λ x. as_pointer (data_is file w x)) (sym e) ∙ ap as_pointer (r.same file)
-
-  pub pointer_absent : Among (0 ∷ 1 ∷ 2 ∷ 3 ∷ 4 ∷ 5 ∷ 7 ∷ 8 ∷ 9 ∷ []) (tag_of the_type row) → (file : List ℕ) → None ≡ as_pointer (data_of (table_of file w) t)
-  pointer_absent h file = other_than_pointer file w row h ∙ ap as_pointer (r.same file)
 
   pub array_found : {u size : ℕ} → row ≡ Row.FixedArray u size → (file : List ℕ) → Reads file w (array_read t) (Some (record { element = u; size = size }))
   unfolding as_array array_read
@@ -60,6 +51,18 @@ module _ {w : List ℕ} {t : ℕ} {row : Row} (r : DataRead w t row) where
   unfolding array_read
   array_absent h file = record { same = other_than_array file w row h ∙ ap as_array (r.same file) }
 
+  pub element_in_array : {u size : ℕ} → row ≡ Row.FixedArray u size → (file : List ℕ) → Reads file w (element_read t) u
+  unfolding as_array element_read
+  element_in_array e file = record { same = ap (λ x. element_of (data_is file w x)) (sym e) ∙ ap element_of (r.same file) }
+
+  pub element_in_pointer : {u : ℕ} → row ≡ Row.Pointer u → (file : List ℕ) → Reads file w (element_read t) u
+  unfolding as_array as_pointer element_read
+  element_in_pointer e file = record { same = ap (λ x. element_of (data_is file w x)) (sym e) ∙ ap element_of (r.same file) }
+
+  pub element_absent : Among (0 ∷ 1 ∷ 2 ∷ 3 ∷ 4 ∷ 5 ∷ 8 ∷ 9 ∷ []) (tag_of the_type row) → (file : List ℕ) → Reads file w (element_read t) error
+  unfolding element_read
+  element_absent h file = record { same = other_than_element file w row h ∙ ap element_of (r.same file) }
+
   pub struct_found : {m d : ℕ} {list : TypeList} → row ≡ Row.Struct m d list → (file : List ℕ) → Some (fields_in file w list) ≡ as_struct (data_of (table_of file w) t)
   unfolding as_struct
   struct_found e file = ap (λ x. as_struct (data_is file w x)) (sym e) ∙ ap as_struct (r.same file)
@@ -67,14 +70,14 @@ module _ {w : List ℕ} {t : ℕ} {row : Row} (r : DataRead w t row) where
   pub struct_absent : Among (0 ∷ 1 ∷ 2 ∷ 3 ∷ 4 ∷ 5 ∷ 6 ∷ 7 ∷ 9 ∷ []) (tag_of the_type row) → (file : List ℕ) → None ≡ as_struct (data_of (table_of file w) t)
   struct_absent h file = other_than_struct file w row h ∙ ap as_struct (r.same file)
 
-  pub signature_found : {m d u : ℕ} {list : TypeList} → row ≡ Row.Function m d list u → SignatureRead w t (FoundSignature.Found list u)
+  pub signature_found : {m d u : ℕ} {list : TypeList} → row ≡ Row.Function m d list u → SignatureRead w t (Some (list, u))
   unfolding as_function
   signature_found {list = list} e = record {
     same = λ file. ap (λ x. as_function (data_is file w x)) (sym e) ∙ ap as_function (r.same file);
-    within = λ file sound list' u' h. let same : list ≡ list' = cc in subst (Within w) same (row_within file sound e);
+    within = λ file sound list' u' h. subst (Within w) (ap (λ (o : Option (TypeList × ℕ)). let_some o list (λ p. p.0)) h) (row_within file sound e);
   }
 
-  pub signature_absent : Among (0 ∷ 1 ∷ 2 ∷ 3 ∷ 4 ∷ 5 ∷ 6 ∷ 7 ∷ 8 ∷ []) (tag_of the_type row) → SignatureRead w t FoundSignature.Absent
+  pub signature_absent : Among (0 ∷ 1 ∷ 2 ∷ 3 ∷ 4 ∷ 5 ∷ 6 ∷ 7 ∷ 8 ∷ []) (tag_of the_type row) → SignatureRead w t None
   signature_absent h = record {
     same = λ file. other_than_function file w row h ∙ ap as_function (r.same file);
     within = λ file sound list u e. let z : ◌≡◌ {A = ℕ} 0 1 = cc in absurd (omega arith);
@@ -101,6 +104,14 @@ some_read b f same e = ap (λ o. let_some o b f) (sym e ∙ same)
 pub none_read : {A B : Type 0} {o p : Option A} (b : B) (f : A → B) → o ≡ p → o ≡ None → b ≡ let_some p b f
 none_read b f same e = ap (λ o. let_some o b f) (sym e ∙ same)
 
+-- what is there, or another value
+unwrapped : {A : Type 0} (o : Option A) (b : A) → unwrap_or o b ≡ let_some o b (λ x. x)
+unwrapped None b = refl
+unwrapped (Some x) b = refl
+
+pub read_or : {A : Type 0} {o p : Option A} (b : A) → o ≡ p → unwrap_or o b ≡ let_some p b (λ x. x)
+read_or {o = o} b same = unwrapped o b ∙ ap (λ o. let_some o b (λ x. x)) same
+
 module _ (w : List ℕ) (context : Option ℕ) (count : ℕ) where
   pub no_context : context ≡ None → ContextsRead w context count no_types
   unfolding element_contexts
@@ -109,19 +120,19 @@ module _ (w : List ℕ) (context : Option ℕ) (count : ℕ) where
     within = λ file sound. zero-le;
   }
 
-  module _ {t : ℕ} {r : FoundList} (is : context ≡ Some t) (read : TupleRead w t r) where
+  module _ {t : ℕ} {r : Option TypeList} (is : context ≡ Some t) (read : TupleRead w t r) where
     contexts_of : (file : List ℕ) → let_some (found_types_of w r) [] (λ ts. if eqb (length ts) count then ts else []) ≡ element_contexts (table_of file w) context count
     unfolding element_contexts
     contexts_of file =
         ap (λ o. let_some o [] (λ ts. if eqb (length ts) count then ts else [])) (read.same file) ∙ ap (λ o. element_contexts (table_of file w) o count) (sym is)
 
-    pub no_tuple : r ≡ FoundList.Absent → ContextsRead w context count no_types
+    pub no_tuple : r ≡ None → ContextsRead w context count no_types
     no_tuple e = record {
       same = λ file. ap (λ x. let_some (found_types_of w x) [] (λ ts. if eqb (length ts) count then ts else [])) (sym e) ∙ contexts_of file;
       within = λ file sound. zero-le;
     }
 
-    module _ {list : TypeList} (e : r ≡ FoundList.Found list) where
+    module _ {list : TypeList} (e : r ≡ Some list) where
       found_contexts : (file : List ℕ) → (if eqb (length (types_of w list)) count then types_of w list else []) ≡ element_contexts (table_of file w) context count
       found_contexts file = ap (λ x. let_some (found_types_of w x) [] (λ ts. if eqb (length ts) count then ts else [])) (sym e) ∙ contexts_of file
 

@@ -3,12 +3,10 @@ use Prim.Native.Nat.{ℕ, zero, suc, ◌+◌, ◌≤◌, ◌<◌}
 use mathlib.Core.Path.{◌≡◌, refl, sym, ap, ◌∙◌}
 use mathlib.Core.Logic.{⊎_elim}
 use mathlib.Core.List.{List, [], ◌∷◌, ◌++◌}
-use Rattle.std.specs.Prelude.{None, Some}
 use native.Mathlib.Nat.{not-suc-le-zero, eq-or-lt_of_le, le_of_suc-le-suc}
 use native.Mathlib.Numerals.{add-one}
 use native.Mathlib.Omega.{arith}
 use borrow.Author.Tests.{eq-eqb}
-use Rattle.std.specs.Prelude.{slice_get}
 use lib.ListN.{length, get_or, length-append, get_or-append, get_or-eq_default, length-map}
 use lib.Seq.{get_or_at}
 use Rattle.resolution.specs.TypeData.{TypeData}
@@ -78,19 +76,6 @@ no_kind file (suc (suc (suc (suc (suc (suc (suc zero))))))) head names items n0 
 no_kind file (suc (suc (suc (suc (suc (suc (suc (suc zero)))))))) head names items n0 n1 n2 n3 n5 n6 n7 n8 n9 = absurd (n8 refl)
 no_kind file (suc (suc (suc (suc (suc (suc (suc (suc (suc zero))))))))) head names items n0 n1 n2 n3 n5 n6 n7 n8 n9 = absurd (n9 refl)
 no_kind file (suc (suc (suc (suc (suc (suc (suc (suc (suc (suc k)))))))))) head names items n0 n1 n2 n3 n5 n6 n7 n8 n9 = refl
-
--- ------------------------------------------------------------------ elements of a list
-
-pub element_at : (l : List ℕ) (i : ℕ) → i < length l → Some (get_or l i 0) ≡ slice_get l i
-element_at [] i below = absurd (not-suc-le-zero below)
-element_at (x ∷ l) zero below = refl
-element_at (x ∷ l) (suc i) below = element_at l i (le_of_suc-le-suc below)
-
-pub element_past : (l : List ℕ) (i : ℕ) → length l ≤ i → None ≡ slice_get l i
-element_past [] zero past = refl
-element_past [] (suc i) past = refl
-element_past (x ∷ l) zero past = absurd (not-suc-le-zero past)
-element_past (x ∷ l) (suc i) past = element_past l i (le_of_suc-le-suc past)
 
 -- ------------------------------------------------------------------ items held
 

@@ -1,16 +1,11 @@
 -- What the values of the code mean in the definition: a list is a range of the items. Definitions only; assumes nothing.
-use Rattle.std.specs.Prelude.{ℕ, List}
-use Rattle.std.specs.Prelude.{Option, None, Some}
+use Rattle.std.specs.Prelude.{ℕ, List, Option, option_map}
 use Rattle.model.specs.Records.{NameWithType}
 use Rattle.resolution.specs.TypeData.{TypeData}
 use Rattle.resolution.specs.Types.{Array, Signature}
 use Rattle.type_table.specs.declared.TypeList.{TypeList}
 use Rattle.type_table.specs.declared.TypeData.{TypeData as Row}
 use Rattle.type_table.specs.declared.TypeData.TheVariants.{Felt, «Bool» as BoolType, U32, Unknown, Error, Tuple, Pointer, FixedArray, Struct, Function}
-use Rattle.type_table.specs.declared.FoundType.{FoundType}
-use Rattle.type_table.specs.declared.FoundList.{FoundList}
-use Rattle.type_table.specs.declared.FoundArray.{FoundArray}
-use Rattle.type_table.specs.declared.FoundSignature.{FoundSignature}
 use Rattle.type_table.specs.Layout.{types_of, names_from, fields_of}
 
 -- the fields of a struct
@@ -48,22 +43,16 @@ list_of (Function m d list t) = list
 
 -- ------------------------------------------------------------------ what may be absent
 
-abbrev pub found_type_of : FoundType → Option ℕ
-found_type_of FoundType.Absent = None
-found_type_of (FoundType.Found t) = Some t
+abbrev pub found_types_of : List ℕ → Option TypeList → Option (List ℕ)
+found_types_of w = option_map (types_of w)
 
-abbrev pub found_types_of : List ℕ → FoundList → Option (List ℕ)
-found_types_of w FoundList.Absent = None
-found_types_of w (FoundList.Found list) = Some (types_of w list)
+abbrev pub found_fields_of : List ℕ → List ℕ → Option TypeList → Option (List NameWithType)
+found_fields_of file w = option_map (fields_in file w)
 
-abbrev pub found_fields_of : List ℕ → List ℕ → FoundList → Option (List NameWithType)
-found_fields_of file w FoundList.Absent = None
-found_fields_of file w (FoundList.Found list) = Some (fields_in file w list)
+-- an array's element and size
+abbrev pub found_array_of : Option (ℕ × ℕ) → Option Array
+found_array_of = option_map (λ array. record { element = array.0; size = array.1 })
 
-abbrev pub found_array_of : FoundArray → Option Array
-found_array_of FoundArray.Absent = None
-found_array_of (FoundArray.Found t size) = Some (record { element = t; size = size })
-
-abbrev pub found_signature_of : List ℕ → FoundSignature → Option Signature
-found_signature_of w FoundSignature.Absent = None
-found_signature_of w (FoundSignature.Found list t) = Some (record { params = types_of w list; return_type = t })
+-- a function's parameters and return type
+abbrev pub found_signature_of : List ℕ → Option (TypeList × ℕ) → Option Signature
+found_signature_of w = option_map (λ signature. record { params = types_of w signature.0; return_type = signature.1 })

@@ -1,26 +1,24 @@
 -- The promises of the functions over the type buffer. Definitions only; assumes nothing.
 use Rattle.std.specs.Prelude.{ℕ, ◌+◌, ◌*◌, ◌≤◌, ◌<◌, min, ◌≡◌, Bool, ◌&&◌, List, ◌++◌, map, eqb, length, drop, replicate, set}
-use Rattle.std.specs.Prelude.{Option}
+use Rattle.std.specs.Prelude.{Option, Some, Result, Ok, Err}
 use Rattle.model.specs.Common.{eq_numbers}
 use Rattle.records.specs.Layout.{word, name_by, item_name}
 use Rattle.resolution.specs.TypeData.{TypeData}
 use Rattle.resolution.specs.Types.{Table, eq_names, first_table, data_of, as_tuple, as_function}
 use Rattle.resolution.specs.Views.{element_contexts}
 use Rattle.resolution.specs.Run.{Outcome, answered, refused, enter_type}
+use Rattle.refusals.specs.declared.Refusal.{Refusal}
+use Rattle.refusals.specs.Numbers.{refusal_number}
 use Rattle.type_table.specs.declared.Head.{Head}
 use Rattle.type_table.specs.declared.TypeList.{TypeList}
 use Rattle.type_table.specs.declared.TypeData.{TypeData as Row}
-use Rattle.type_table.specs.declared.FoundList.{FoundList}
-use Rattle.type_table.specs.declared.FoundSignature.{FoundSignature}
-use Rattle.type_table.specs.declared.Resolved.{Resolved}
-use Rattle.type_table.specs.declared.Resolved.TheVariants.{Answered, Refused}
 use Rattle.type_table.specs.Layout.{types_of, items_from, names_from, head_at, names_at, items_at, type_count, item_count, table_of, Sound}
 use Rattle.type_table.specs.Meaning.{data_is, list_of, found_types_of, found_signature_of}
 
 -- a type with the table that the words hold, or a refusal
-abbrev pub outcome_of : List ℕ → Resolved → List ℕ → Outcome ℕ
-outcome_of file (Answered t) w = answered t (table_of file w)
-outcome_of file (Refused n) w = refused n
+abbrev pub outcome_of : List ℕ → Result ℕ Refusal → List ℕ → Outcome ℕ
+outcome_of file (Ok t) w = answered t (table_of file w)
+outcome_of file (Err refusal) w = refused (refusal_number refusal)
 
 -- src now stands from a place on; all other words are as they were
 pub record Copied (at : ℕ) (src w w' : List ℕ) : Type 0 where
@@ -43,12 +41,12 @@ pub record Grows (w w' : List ℕ) : Type 0 where
   pub same_length : length w' ≡ length w
 
 -- interning: the number of a row of the table, which enters it if it is new, or refusal 9
-pub record Interns (file : List ℕ) (row : TypeData) (w w' : List ℕ) (r : Resolved) : Type 0 where
+pub record Interns (file : List ℕ) (row : TypeData) (w w' : List ℕ) (r : Result ℕ Refusal) : Type 0 where
   pub outcome : outcome_of file r w' ≡ enter_type row (table_of file w)
   pub sound : Sound file w'
   pub grows : Grows w w'
-  pub below : (t : ℕ) → r ≡ Answered t → t < type_count w'
-  pub kept : (n : ℕ) → r ≡ Refused n → w' ≡ w
+  pub below : (t : ℕ) → r ≡ Ok t → t < type_count w'
+  pub kept : (refusal : Refusal) → r ≡ Err refusal → w' ≡ w
 
 -- ------------------------------------------------------------------ reading
 
@@ -66,14 +64,14 @@ pub record DataRead (types : List ℕ) (t : ℕ) (r : Row) : Type 0 where
   pub within : (file : List ℕ) → Sound file types → Within types (list_of r)
 
 -- the elements of a tuple, and their list lies within the items
-pub record TupleRead (types : List ℕ) (t : ℕ) (r : FoundList) : Type 0 where
+pub record TupleRead (types : List ℕ) (t : ℕ) (r : Option TypeList) : Type 0 where
   pub same : (file : List ℕ) → found_types_of types r ≡ as_tuple (data_of (table_of file types) t)
-  pub within : (file : List ℕ) → Sound file types → (list : TypeList) → r ≡ FoundList.Found list → Within types list
+  pub within : (file : List ℕ) → Sound file types → (list : TypeList) → r ≡ Some list → Within types list
 
 -- the signature of a function, and its list lies within the items
-pub record SignatureRead (types : List ℕ) (t : ℕ) (r : FoundSignature) : Type 0 where
+pub record SignatureRead (types : List ℕ) (t : ℕ) (r : Option (TypeList × ℕ)) : Type 0 where
   pub same : (file : List ℕ) → found_signature_of types r ≡ as_function (data_of (table_of file types) t)
-  pub within : (file : List ℕ) → Sound file types → (list : TypeList) (u : ℕ) → r ≡ FoundSignature.Found list u → Within types list
+  pub within : (file : List ℕ) → Sound file types → (list : TypeList) (u : ℕ) → r ≡ Some (list, u) → Within types list
 
 -- the elements of a context that is a tuple of that length, and their list lies within the items
 pub record ContextsRead (types : List ℕ) (context : Option ℕ) (count : ℕ) (r : TypeList) : Type 0 where

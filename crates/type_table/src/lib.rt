@@ -12,14 +12,15 @@ ghost use Rattle.resolution.specs.TableOk.{row_types};
 ghost use Rattle.resolution.specs.Views.{typed_fields, suffix_type};
 ghost use Rattle.type_table.specs.Layout.{part, head_at, items_at, names_at, type_count, item_count};
 ghost use Rattle.type_table.specs.Layout.{types_of, data_from, AllBelow, table_of, Sound, Canonical};
-ghost use Rattle.type_table.specs.Meaning.{fields_in, found_type_of, found_fields_of, found_array_of};
+ghost use Rattle.type_table.specs.Meaning.{fields_in, found_fields_of, found_array_of};
 ghost use Rattle.type_table.specs.Reads.{struct_or_error, member_read, element_read, tuple_element_read};
 ghost use Rattle.type_table.specs.Reads.{param_read, return_read, array_read, numeric_read, numeric_context_read};
 ghost use Rattle.type_table.specs.Reads.{element_hint_read, navigate_read};
-ghost use Rattle.type_table.specs.Promises.{Copied, NamesCopied, cleared, Starts, same_heads, same_rows, Added};
+ghost use Rattle.type_table.specs.Promises.{Copied, NamesCopied, cleared, Starts, same_rows, Added};
 ghost use Rattle.type_table.specs.Promises.{Interns, Reads, DataRead, TupleRead, SignatureRead, ContextsRead};
 
-use records::{Items, Name, Suffix};
+use records::{Items, Name};
+use refusals::Refusal;
 use semantic_index::names;
 
 // The layout of the type buffer: its words, where the items' types and names begin, and its limits.
@@ -49,7 +50,7 @@ pub const KIND_STRUCT: u32 = 8;
 pub const KIND_FUNCTION: u32 = 9;
 
 // The fixed words of a row. What its kind has no use for is zero.
-#[derive(Clone, Copy)]
+#[derive(Clone, Copy, PartialEq, Eq)]
 pub struct Head {
     pub kind: u32,
     // The module of a struct or a function.
@@ -75,14 +76,17 @@ pub const ERROR: u32 = 4;
 pub const UNIT: u32 = 5;
 
 // A list of types: a range of the items.
-#[derive(Clone, Copy)]
+#[derive(Clone, Copy, PartialEq, Eq)]
 pub struct TypeList {
     pub first: u32,
     pub count: u32,
 }
 
+// The list of no types.
+const NO_TYPES: TypeList = TypeList { first: 0, count: 0 };
+
 // A type by its row.
-#[derive(Clone, Copy)]
+#[derive(Clone, Copy, PartialEq, Eq)]
 pub enum TypeData {
     Felt,
     Bool,
@@ -96,38 +100,6 @@ pub enum TypeData {
     Struct(u32, u32, TypeList),
     // module, definition, parameters, return type
     Function(u32, u32, TypeList, u32),
-}
-
-// What may be absent: a type, a row's list, an array's element and size, a function's parameters and return type.
-#[derive(Clone, Copy)]
-pub enum FoundType {
-    Absent,
-    Found(u32),
-}
-
-#[derive(Clone, Copy)]
-pub enum FoundList {
-    Absent,
-    Found(TypeList),
-}
-
-#[derive(Clone, Copy)]
-pub enum FoundArray {
-    Absent,
-    Found(u32, u64),
-}
-
-#[derive(Clone, Copy)]
-pub enum FoundSignature {
-    Absent,
-    Found(TypeList, u32),
-}
-
-// The number of a type, or of a refusal.
-#[derive(Clone, Copy)]
-pub enum Resolved {
-    Answered(u32),
-    Refused(u32),
 }
 
 // ------------------------------------------------------------------ the words of a row
@@ -188,23 +160,7 @@ fn names_of(types: &[u32], t: u32) -> &[u32]
         let count = records::word_at(types, at + 9) as usize;
         return words_from(types, NAMES + start, count);
     }
-    &types[0..0]
-}
-
-fn same_words(a: &[u32], b: &[u32]) -> bool
-    ensures { result ≡ eq_numbers a.now b.now }
-{
-    if a.len() != b.len() {
-        return false;
-    }
-    let mut i = 0;
-    while i < a.len() {
-        if a[i] != b[i] {
-            return false;
-        }
-        i += 1;
-    }
-    true
+    &[]
 }
 
 fn same_names(file: &[u8], a: &[u32], b: &[u32]) -> bool
@@ -213,14 +169,13 @@ fn same_names(file: &[u8], a: &[u32], b: &[u32]) -> bool
     if a.len() != b.len() {
         return false;
     }
-    let mut i = 0;
-    while i < a.len() {
+    let count = a.len();
+    for i in 0..count {
         let x = a[i];
         let y = b[i];
         if !names::same_name(file, records::name_of(x), records::name_of(y)) {
             return false;
         }
-        i += 1;
     }
     true
 }
@@ -230,27 +185,16 @@ fn copy_to(words: &mut [u32], at: usize, src: &[u32])
     requires { at + length src.now ≤ length words.old }
     ensures { Copied at src.now words.old words.new }
 {
-    let mut i = 0;
-    while i < src.len() {
-        words[at + i] = src[i];
-        i += 1;
-    }
+    let end = at + src.len();
+    words[at..end].copy_from_slice(src);
 }
 
 // Sets the first 8,192 words to zero.
 pub fn clear(types: &mut [u32])
     ensures { types.new ≡ cleared types.old }
 {
-    let len = types.len();
-    let mut end: usize = WORDS;
-    if len < WORDS {
-        end = len;
-    }
-    let mut i: usize = 0;
-    while i < end {
-        types[i] = 0;
-        i += 1;
-    }
+    let end = types.len().min(WORDS);
+    types[..end].fill(0);
 }
 
 // The six first types, and zeros.
@@ -285,109 +229,93 @@ pub fn data(types: &[u32], t: u32) -> TypeData
     let list = TypeList { first, count };
     let kind = head.kind;
     match kind {
-        0 => TypeData::Felt,
-        1 => TypeData::Bool,
-        2 => TypeData::U32,
-        3 => TypeData::Unknown,
-        5 => TypeData::Tuple(list),
-        6 => TypeData::Pointer(head.element),
-        7 => TypeData::FixedArray(head.element, head.size),
-        8 => TypeData::Struct(head.home, head.definition, list),
-        9 => TypeData::Function(head.home, head.definition, list, head.element),
+        FELT => TypeData::Felt,
+        BOOL => TypeData::Bool,
+        U32 => TypeData::U32,
+        KIND_UNKNOWN => TypeData::Unknown,
+        KIND_TUPLE => TypeData::Tuple(list),
+        KIND_POINTER => TypeData::Pointer(head.element),
+        KIND_ARRAY => TypeData::FixedArray(head.element, head.size),
+        KIND_STRUCT => TypeData::Struct(head.home, head.definition, list),
+        KIND_FUNCTION => TypeData::Function(head.home, head.definition, list, head.element),
         _ => TypeData::Error,
     }
 }
 
 // The elements of a tuple.
-fn tuple_of(types: &[u32], t: u32) -> FoundList
+fn tuple_of(types: &[u32], t: u32) -> Option<TypeList>
     ensures { TupleRead types.now t result }
 {
     match data(types, t) {
-        TypeData::Tuple(list) => FoundList::Found(list),
-        _ => FoundList::Absent,
-    }
-}
-
-// The element of a pointer.
-fn pointer_of(types: &[u32], t: u32) -> FoundType
-    ensures { (file : List ℕ) → found_type_of result ≡ as_pointer (data_of (table_of file types.now) t) }
-{
-    match data(types, t) {
-        TypeData::Pointer(element) => FoundType::Found(element),
-        _ => FoundType::Absent,
+        TypeData::Tuple(list) => Some(list),
+        _ => None,
     }
 }
 
 // The element and the size of an array.
-pub fn array_of(types: &[u32], t: u32) -> FoundArray
+pub fn array_of(types: &[u32], t: u32) -> Option<(u32, u64)>
     ensures { (file : List ℕ) → Reads file types.now (array_read t) (found_array_of result) }
 {
     match data(types, t) {
-        TypeData::FixedArray(element, size) => FoundArray::Found(element, size),
-        _ => FoundArray::Absent,
+        TypeData::FixedArray(element, size) => Some((element, size)),
+        _ => None,
     }
 }
 
 // The fields of a struct.
-fn struct_of(types: &[u32], t: u32) -> FoundList
+fn struct_of(types: &[u32], t: u32) -> Option<TypeList>
     ensures { (file : List ℕ) → found_fields_of file types.now result ≡ as_struct (data_of (table_of file types.now) t) }
 {
     match data(types, t) {
-        TypeData::Struct(_, _, list) => FoundList::Found(list),
-        _ => FoundList::Absent,
+        TypeData::Struct(_, _, list) => Some(list),
+        _ => None,
     }
 }
 
 // The signature of a function.
-pub fn signature_of(types: &[u32], t: u32) -> FoundSignature
+pub fn signature_of(types: &[u32], t: u32) -> Option<(TypeList, u32)>
     ensures { SignatureRead types.now t result }
 {
     match data(types, t) {
-        TypeData::Function(_, _, list, result) => FoundSignature::Found(list, result),
-        _ => FoundSignature::Absent,
+        TypeData::Function(_, _, list, result) => Some((list, result)),
+        _ => None,
     }
 }
 
 // The type itself, if it is u32 or felt.
-pub fn numeric(types: &[u32], t: u32) -> FoundType
-    ensures { (file : List ℕ) → Reads file types.now (numeric_read t) (found_type_of result) }
+pub fn numeric(types: &[u32], t: u32) -> Option<u32>
+    ensures { (file : List ℕ) → Reads file types.now (numeric_read t) result }
 {
     match data(types, t) {
-        TypeData::Felt | TypeData::U32 => FoundType::Found(t),
-        _ => FoundType::Absent,
+        TypeData::Felt | TypeData::U32 => Some(t),
+        _ => None,
     }
 }
 
 // ------------------------------------------------------------------ reading lists
 
 // An element of a tuple, or a parameter of a function, by its place in the list.
-pub fn item(types: &[u32], list: TypeList, i: u32) -> FoundType
-    ensures { found_type_of result ≡ slice_get (types_of types.now list) i }
+pub fn item(types: &[u32], list: TypeList, i: u32) -> Option<u32>
+    ensures { result ≡ slice_get (types_of types.now list) i }
 {
     let listed = words_from(types, ITEMS + (list.first as usize), list.count as usize);
-    let place = i as usize;
-    if place < listed.len() {
-        FoundType::Found(listed[place])
-    } else {
-        FoundType::Absent
-    }
+    listed.get(i as usize).copied()
 }
 
 // The type of the first field of the name.
-fn field_type(file: &[u8], types: &[u32], list: TypeList, name: Name) -> FoundType
-    ensures { found_type_of result ≡ field_type (fields_in file.now types.now list) (name_of file.now name) }
+fn field_type(file: &[u8], types: &[u32], list: TypeList, name: Name) -> Option<u32>
+    ensures { result ≡ field_type (fields_in file.now types.now list) (name_of file.now name) }
 {
     let names = words_from(types, NAMES + (list.first as usize), list.count as usize);
     let items = words_from(types, ITEMS + (list.first as usize), list.count as usize);
-    let mut i = 0;
-    while i < names.len() {
+    let count = names.len();
+    for i in 0..count {
         let x = names[i];
         if names::same_name(file, records::name_of(x), name) {
-            return FoundType::Found(items[i]);
+            return Some(items[i]);
         }
-        i += 1;
     }
-    FoundType::Absent
+    None
 }
 
 // ------------------------------------------------------------------ what the resolution functions read
@@ -397,8 +325,8 @@ pub fn struct_or_error(types: &[u32], t: u32) -> u32
     ensures { (file : List ℕ) → Reads file types.now (struct_or_error t) result }
 {
     match struct_of(types, t) {
-        FoundList::Found(_) => t,
-        FoundList::Absent => ERROR,
+        Some(_) => t,
+        None => ERROR,
     }
 }
 
@@ -406,96 +334,77 @@ pub fn struct_or_error(types: &[u32], t: u32) -> u32
 pub fn member_type(file: &[u8], types: &[u32], t: u32, name: Name) -> u32
     ensures { Reads file.now types.now (member_read t (name_of file.now name)) result }
 {
-    let FoundList::Found(fields) = struct_of(types, t) else {
+    let Some(fields) = struct_of(types, t) else {
         return ERROR;
     };
-    let FoundType::Found(u) = field_type(file, types, fields, name) else {
-        return ERROR;
-    };
-    u
+    field_type(file, types, fields, name).unwrap_or(ERROR)
 }
 
 // The element of an array or a pointer, else error.
 pub fn element_type(types: &[u32], t: u32) -> u32
     ensures { (file : List ℕ) → Reads file types.now (element_read t) result }
 {
-    if let FoundArray::Found(element, _) = array_of(types, t) {
-        return element;
+    match data(types, t) {
+        TypeData::FixedArray(element, _) => element,
+        TypeData::Pointer(element) => element,
+        _ => ERROR,
     }
-    let FoundType::Found(u) = pointer_of(types, t) else {
-        return ERROR;
-    };
-    u
 }
 
 // An element of a tuple, else error.
 pub fn tuple_element(types: &[u32], t: u32, i: u32) -> u32
     ensures { (file : List ℕ) → Reads file types.now (tuple_element_read t i) result }
 {
-    let FoundList::Found(elements) = tuple_of(types, t) else {
+    let Some(elements) = tuple_of(types, t) else {
         return ERROR;
     };
-    let FoundType::Found(u) = item(types, elements, i) else {
-        return ERROR;
-    };
-    u
+    item(types, elements, i).unwrap_or(ERROR)
 }
 
 // A parameter of a function.
-pub fn param_type(types: &[u32], t: u32, i: u32) -> FoundType
-    ensures { (file : List ℕ) → Reads file types.now (param_read t i) (found_type_of result) }
+pub fn param_type(types: &[u32], t: u32, i: u32) -> Option<u32>
+    ensures { (file : List ℕ) → Reads file types.now (param_read t i) result }
 {
-    let FoundSignature::Found(params, _) = signature_of(types, t) else {
-        return FoundType::Absent;
-    };
+    let (params, _) = signature_of(types, t)?;
     item(types, params, i)
 }
 
 // The return type of a function.
-pub fn return_type(types: &[u32], t: u32) -> FoundType
-    ensures { (file : List ℕ) → Reads file types.now (return_read t) (found_type_of result) }
+pub fn return_type(types: &[u32], t: u32) -> Option<u32>
+    ensures { (file : List ℕ) → Reads file types.now (return_read t) result }
 {
-    let FoundSignature::Found(_, result) = signature_of(types, t) else {
-        return FoundType::Absent;
-    };
-    FoundType::Found(result)
+    let (_, returned) = signature_of(types, t)?;
+    Some(returned)
 }
 
 // The context itself if it is u32 or felt, else felt.
-pub fn numeric_context(types: &[u32], context: FoundType) -> u32
-    ensures { (file : List ℕ) → Reads file types.now (numeric_context_read (found_type_of context)) result }
+pub fn numeric_context(types: &[u32], context: Option<u32>) -> u32
+    ensures { (file : List ℕ) → Reads file types.now (numeric_context_read context) result }
 {
-    let FoundType::Found(t) = context else {
+    let Some(t) = context else {
         return FELT;
     };
-    let FoundType::Found(u) = numeric(types, t) else {
-        return FELT;
-    };
-    u
+    numeric(types, t).unwrap_or(FELT)
 }
 
 // The element of a context that is an array.
-pub fn element_hint(types: &[u32], context: FoundType) -> FoundType
-    ensures { (file : List ℕ) → Reads file types.now (element_hint_read (found_type_of context)) (found_type_of result) }
+pub fn element_hint(types: &[u32], context: Option<u32>) -> Option<u32>
+    ensures { (file : List ℕ) → Reads file types.now (element_hint_read context) result }
 {
-    let FoundType::Found(t) = context else {
-        return FoundType::Absent;
-    };
-    let FoundArray::Found(element, _) = array_of(types, t) else {
-        return FoundType::Absent;
-    };
-    FoundType::Found(element)
+    let t = context?;
+    let (element, _) = array_of(types, t)?;
+    Some(element)
 }
 
 // The elements of a context that is a tuple of that length, else none.
-pub fn element_contexts(types: &[u32], context: FoundType, count: u32) -> TypeList
-    ensures { ContextsRead types.now (found_type_of context) count result }
+pub fn element_contexts(types: &[u32], context: Option<u32>, count: u32) -> TypeList
+    ensures { ContextsRead types.now context count result }
 {
-    let FoundType::Found(t) = context else {
-        return TypeList { first: 0, count: 0 };
+    let Some(t) = context else {
+        return NO_TYPES;
     };
-    let FoundList::Found(elements) = tuple_of(types, t) else {
-        return TypeList { first: 0, count: 0 };
+    let Some(elements) = tuple_of(types, t) else {
+        return NO_TYPES;
     };
     let held = words_from(
         types,
@@ -505,7 +414,7 @@ pub fn element_contexts(types: &[u32], context: FoundType, count: u32) -> TypeLi
     if held.len() == (count as usize) {
         elements
     } else {
-        TypeList { first: 0, count: 0 }
+        NO_TYPES
     }
 }
 
@@ -516,35 +425,31 @@ pub fn navigate(words: &[u32], types: &[u32], current: u32, path: Items) -> u32
     let first = path.first;
     let count = path.count;
     let mut at = current;
-    let mut i: u32 = 0;
-    while i < count {
-        let FoundList::Found(elements) = tuple_of(types, at) else {
+    for i in 0..count {
+        let Some(elements) = tuple_of(types, at) else {
             return ERROR;
         };
         let index = records::item_value(words, first, i);
-        let FoundType::Found(t) = item(types, elements, index) else {
+        let Some(t) = item(types, elements, index) else {
             return ERROR;
         };
         at = t;
-        i += 1;
     }
     at
 }
 
 // u32 and felt, the suffixes that decide.
-pub fn suffix_type(file: &[u8], suffix: Suffix) -> FoundType
-    ensures { found_type_of result ≡ suffix_type (suffix_of file.now suffix) }
+pub fn suffix_type(file: &[u8], suffix: Option<Name>) -> Option<u32>
+    ensures { result ≡ suffix_type (suffix_of file.now suffix) }
 {
-    let Suffix::Named(name) = suffix else {
-        return FoundType::Absent;
-    };
+    let name = suffix?;
     if names::is_text(file, name, b"u32") {
-        return FoundType::Found(U32);
+        return Some(U32);
     }
     if names::is_text(file, name, b"felt") {
-        return FoundType::Found(FELT);
+        return Some(FELT);
     }
-    FoundType::Absent
+    None
 }
 
 // ------------------------------------------------------------------ interning
@@ -552,52 +457,28 @@ pub fn suffix_type(file: &[u8], suffix: Suffix) -> FoundType
 // The functions that intern ask that the words hold a table and that the types named are of it, so that an element's number is below its holder's. To test
 // it would be to read the whole table at each type; a table has it from `start` on, and each of these keeps it.
 
-fn same_head(a: Head, b: Head) -> bool
-    ensures { result ≡ same_heads a b }
-{
-    if a.kind != b.kind {
-        return false;
-    }
-    if a.home != b.home {
-        return false;
-    }
-    if a.definition != b.definition {
-        return false;
-    }
-    if a.element != b.element {
-        return false;
-    }
-    a.size == b.size
-}
-
 // Whether a head with its lists is that of the row of a type.
 fn same_row(file: &[u8], types: &[u32], t: u32, head: Head, names: &[u32], items: &[u32]) -> bool
     ensures { result ≡ same_rows file.now head names.now items.now types.now t }
 {
-    if !same_head(head, head_of(types, t)) {
-        return false;
-    }
-    if !same_words(items, items_of(types, t)) {
-        return false;
-    }
-    same_names(file, names, names_of(types, t))
+    head == head_of(types, t)
+        && items == items_of(types, t)
+        && same_names(file, names, names_of(types, t))
 }
 
 // The number of the type, where the table has it.
-fn find_type(file: &[u8], types: &[u32], head: Head, names: &[u32], items: &[u32]) -> FoundType
+fn find_type(file: &[u8], types: &[u32], head: Head, names: &[u32], items: &[u32]) -> Option<u32>
     requires sound { Sound file.now types.now }
     requires canonical { Canonical file.now head names.now items.now }
-    ensures { found_type_of result ≡ find_type (table_of file.now types.now) (data_from file.now head names.now items.now) }
+    ensures { result ≡ find_type (table_of file.now types.now) (data_from file.now head names.now items.now) }
 {
     let count = records::word_at(types, 0);
-    let mut t: u32 = 0;
-    while t < count {
+    for t in 0..count {
         if same_row(file, types, t, head, names, items) {
-            return FoundType::Found(t);
+            return Some(t);
         }
-        t += 1;
     }
-    FoundType::Absent
+    None
 }
 
 // Writes one row more.
@@ -631,82 +512,84 @@ fn add_row(types: &mut [u32], head: Head, names: &[u32], items: &[u32])
     types[1] = held + count;
 }
 
-// The number of the type, which enters the table if it is new; refused with 9 where there is no room.
-fn intern(file: &[u8], types: &mut [u32], head: Head, names: &[u32], items: &[u32]) -> Resolved
+// The number of the type, which enters the table if it is new; refused where there is no room.
+fn intern(
+    file: &[u8],
+    types: &mut [u32],
+    head: Head,
+    names: &[u32],
+    items: &[u32],
+) -> Result<u32, Refusal>
     requires sound { Sound file.now types.old }
     requires canonical { Canonical file.now head names.now items.now }
     requires all_below { AllBelow (type_count types.old) (row_types (data_from file.now head names.now items.now)) }
     ensures { Interns file.now (data_from file.now head names.now items.now) types.old types.new result }
 {
-    match find_type(file, types, head, names, items) {
-        FoundType::Found(t) => Resolved::Answered(t),
-        FoundType::Absent => {
-            let t = types[0];
-            let held = types[1];
-            let n = items.len();
-            if MAX_TYPES <= t {
-                return Resolved::Refused(9);
-            }
-            if MAX_ITEMS - (held as usize) < n {
-                return Resolved::Refused(9);
-            }
-            add_row(types, head, names, items);
-            Resolved::Answered(t)
-        }
+    if let Some(t) = find_type(file, types, head, names, items) {
+        return Ok(t);
     }
+    let t = types[0];
+    let held = types[1];
+    let n = items.len();
+    if MAX_TYPES <= t {
+        return Err(Refusal::TableFull);
+    }
+    if MAX_ITEMS - (held as usize) < n {
+        return Err(Refusal::TableFull);
+    }
+    add_row(types, head, names, items);
+    Ok(t)
 }
 
+// What a head holds beside its kind where its kind has no use for it.
+const NO_PARTS: Head = Head {
+    kind: 0,
+    home: 0,
+    definition: 0,
+    element: 0,
+    size: 0,
+};
+
 // Interns a pointer to a type.
-pub fn intern_pointer(file: &[u8], types: &mut [u32], element: u32) -> Resolved
+pub fn intern_pointer(file: &[u8], types: &mut [u32], element: u32) -> Result<u32, Refusal>
     requires sound { Sound file.now types.old }
     requires element_bound { element < type_count types.old }
     ensures { Interns file.now (Data.Pointer element) types.old types.new result }
 {
-    let names = [0u32];
-    let items = [0u32];
     let head = Head {
         kind: KIND_POINTER,
-        home: 0,
-        definition: 0,
         element,
-        size: 0,
+        ..NO_PARTS
     };
-    intern(file, types, head, &names[..0], &items[..0])
+    intern(file, types, head, &[], &[])
 }
 
 // Interns an array of a type.
-pub fn intern_array(file: &[u8], types: &mut [u32], element: u32, size: u64) -> Resolved
+pub fn intern_array(file: &[u8], types: &mut [u32], element: u32, size: u64) -> Result<u32, Refusal>
     requires sound { Sound file.now types.old }
     requires element_bound { element < type_count types.old }
     ensures { Interns file.now (Data.FixedArray element size) types.old types.new result }
 {
-    let names = [0u32];
-    let items = [0u32];
     let head = Head {
         kind: KIND_ARRAY,
-        home: 0,
-        definition: 0,
         element,
         size,
+        ..NO_PARTS
     };
-    intern(file, types, head, &names[..0], &items[..0])
+    intern(file, types, head, &[], &[])
 }
 
 // Interns a tuple of types.
-pub fn intern_tuple(file: &[u8], types: &mut [u32], elements: &[u32]) -> Resolved
+pub fn intern_tuple(file: &[u8], types: &mut [u32], elements: &[u32]) -> Result<u32, Refusal>
     requires sound { Sound file.now types.old }
     requires all_below { AllBelow (type_count types.old) elements.now }
     ensures { Interns file.now (Data.Tuple elements.now) types.old types.new result }
 {
-    let names = [0u32];
     let head = Head {
         kind: KIND_TUPLE,
-        home: 0,
-        definition: 0,
-        element: 0,
-        size: 0,
+        ..NO_PARTS
     };
-    intern(file, types, head, &names[..0], elements)
+    intern(file, types, head, &[], elements)
 }
 
 // The name words of the fields.
@@ -716,10 +599,8 @@ fn copy_names(words: &[u32], fields: Items, names: &mut [u32])
 {
     let first = fields.first as usize;
     let count = fields.count as usize;
-    let mut i: usize = 0;
-    while i < count {
+    for i in 0..count {
         names[i] = records::word_at(words, records::ITEMS + 2 * (first + i) + 1);
-        i += 1;
     }
 }
 
@@ -732,7 +613,7 @@ pub fn intern_struct(
     d: u32,
     fields: Items,
     elements: &[u32],
-) -> Resolved
+) -> Result<u32, Refusal>
     requires sound { Sound file.now types.old }
     requires elements_len { (length elements.now ≡ fields.count) × (fields.count ≤ 2048) }
     requires all_below { AllBelow (type_count types.old) elements.now }
@@ -745,8 +626,7 @@ pub fn intern_struct(
         kind: KIND_STRUCT,
         home: m,
         definition: d,
-        element: 0,
-        size: 0,
+        ..NO_PARTS
     };
     intern(file, types, head, &names[..count], elements)
 }
@@ -759,19 +639,18 @@ pub fn intern_function(
     d: u32,
     params: &[u32],
     return_type: u32,
-) -> Resolved
+) -> Result<u32, Refusal>
     requires sound { Sound file.now types.old }
     requires all_below { AllBelow (type_count types.old) params.now }
     requires return_type_bound { return_type < type_count types.old }
     ensures { Interns file.now (Data.Function m d params.now return_type) types.old types.new result }
 {
-    let names = [0u32];
     let head = Head {
         kind: KIND_FUNCTION,
         home: m,
         definition: d,
         element: return_type,
-        size: 0,
+        ..NO_PARTS
     };
-    intern(file, types, head, &names[..0], params)
+    intern(file, types, head, &[], params)
 }

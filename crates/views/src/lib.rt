@@ -4,7 +4,7 @@
 
 ghost use Rattle.std.specs.Prelude.{◌≡◌, ℕ, List};
 ghost use Rattle.std.specs.Prelude.{slice_get};
-ghost use Rattle.model.specs.Records.{Index};
+ghost use Rattle.model.specs.Records as model;
 ghost use Rattle.resolution.specs.Asked.{question_asked};
 ghost use Rattle.resolution.specs.Types.{field_type};
 ghost use Rattle.resolution.specs.Compatible.{is_commutative};
@@ -18,8 +18,8 @@ ghost use Rattle.views.specs.Promises.{ArgumentDefinition, FieldTypeExpr, Import
 ghost use Rattle.views.specs.Promises.{PositionExpression};
 
 use records::{
-    BinaryOp, DefinitionIndex, DefinitionKind, Expression, ExpressionId, FileScopeId, Items, Name,
-    Question, TypeExpr,
+    BinaryOp, DefinitionIndex, DefinitionKind, Expression, ExpressionId, FileScopeId, Index, Items,
+    Name, Question, TypeExpr,
 };
 
 // What an answer line is about: module, expression, context; module, definition; module, T, scope; module, position.
@@ -35,7 +35,7 @@ pub enum Asked {
 
 // What a question asks at a number: each asks one thing, and has one line.
 pub fn asked_at(question: Question, line: u32) -> Option<Asked>
-    ensures { (index : Index) → found_asked_of result ≡ slice_get (question_asked index (question_of question)) line }
+    ensures { (index : model.Index) → found_asked_of result ≡ slice_get (question_asked index (question_of question)) line }
 {
     if line > 0 {
         return None;
@@ -129,20 +129,20 @@ pub fn right_first(
 // ------------------------------------------------------------------ calls
 
 // Whether the callee is the built-in `assert`; a missing callee is no identifier.
-pub fn callee_is_builtin(file: &[u8], words: &[u32], m: u32, callee: Option<ExpressionId>) -> bool
-    ensures { CalleeIsBuiltin file.now words.now m callee result }
+pub fn callee_is_builtin(index: &Index, m: u32, callee: Option<ExpressionId>) -> bool
+    ensures { CalleeIsBuiltin index.now.file.now index.now.words.now m callee result }
 {
     let Some(callee_id) = callee else {
         return false;
     };
-    let Some(callee_info) = records::expression_at(words, m, callee_id) else {
+    let Some(callee_info) = records::expression_at(index.words, m, callee_id) else {
         return false;
     };
     let node = callee_info.node;
     let Expression::Identifier(name) = node else {
         return false;
     };
-    semantic_index::builtins::is_builtin_function_name(file, name)
+    semantic_index::builtins::is_builtin_function_name(index.file, name)
 }
 
 // The definition that the callee of an argument records, if the callee is an identifier.
@@ -160,53 +160,56 @@ pub fn argument_definition(words: &[u32], m: u32, callee: ExpressionId) -> Optio
 // ------------------------------------------------------------------ fields
 
 // The t of the first field of that name.
-fn field_type(file: &[u8], words: &[u32], fields: Items, name: Name) -> Option<u32>
+fn field_type(index: &Index, fields: Items, name: Name) -> Option<u32>
     ensures { type_link_of result
-        ≡ field_type (names_with_types_of file.now words.now fields)
-        (name_of file.now name) }
+        ≡ field_type (names_with_types_of index.now.file.now index.now.words.now fields)
+        (name_of index.now.file.now name) }
 {
     let first = fields.first;
     let count = fields.count;
     for i in 0..count {
-        if semantic_index::names::same_name(file, records::item_name(words, first, i), name) {
-            return Some(records::item_value(words, first, i));
+        if semantic_index::names::same_name(
+            index.file,
+            records::item_name(index.words, first, i),
+            name,
+        ) {
+            return Some(records::item_value(index.words, first, i));
         }
     }
     None
 }
 
 // The t of a struct definition's field.
-fn struct_field(file: &[u8], words: &[u32], kind: DefinitionKind, name: Name) -> Option<u32>
+fn struct_field(index: &Index, kind: DefinitionKind, name: Name) -> Option<u32>
     ensures { type_link_of result
-        ≡ struct_field (definition_kind_of file.now words.now kind)
-        (name_of file.now name) }
+        ≡ struct_field (definition_kind_of index.now.file.now index.now.words.now kind)
+        (name_of index.now.file.now name) }
 {
     match kind {
-        DefinitionKind::Struct(fields) => field_type(file, words, fields, name),
+        DefinitionKind::Struct(fields) => field_type(index, fields, name),
         _ => None,
     }
 }
 
 // The T of a struct literal's field, in the literal's scope.
 pub fn field_type_expr(
-    file: &[u8],
-    words: &[u32],
+    index: &Index,
     m: u32,
     parent: ExpressionId,
     field: Name,
 ) -> Option<(u32, FileScopeId)>
-    ensures { FieldTypeExpr file.now words.now m parent field result }
+    ensures { FieldTypeExpr index.now.file.now index.now.words.now m parent field result }
 {
-    let parent_info = records::expression_at(words, m, parent)?;
+    let parent_info = records::expression_at(index.words, m, parent)?;
     let scope = parent_info.scope;
     let node = parent_info.node;
     let Expression::StructLiteral(name, start, end) = node else {
         return None;
     };
-    let d = semantic_index::resolve_name_at_position(file, words, m, name, scope, start, end)?;
-    let definition = records::definition_at(words, m, d)?;
+    let d = semantic_index::resolve_name_at_position(index, m, name, scope, start, end)?;
+    let definition = records::definition_at(index.words, m, d)?;
     let kind = definition.kind;
-    let t = struct_field(file, words, kind, field)?;
+    let t = struct_field(index, kind, field)?;
     Some((t, scope))
 }
 
@@ -214,32 +217,24 @@ pub fn field_type_expr(
 
 // The item of a `use`: it stands in the other module's root scope.
 pub fn imported_definition(
-    file: &[u8],
-    words: &[u32],
+    index: &Index,
     imported_module: Name,
     item: Name,
 ) -> Option<(u32, DefinitionIndex)>
-    ensures { ImportedDefinition file.now words.now imported_module item result }
+    ensures { ImportedDefinition index.now.file.now index.now.words.now imported_module item result }
 {
-    let imported = semantic_index::module_by_name(file, words, imported_module)?;
-    if !records::has_module(words, imported) {
+    let imported = semantic_index::module_by_name(index, imported_module)?;
+    if !records::has_module(index.words, imported) {
         return None;
     }
-    let imported_root = semantic_index::root_scope(words, imported)?;
-    let d = semantic_index::latest_definition_index_by_name(
-        file,
-        words,
-        imported,
-        imported_root,
-        item,
-    )?;
+    let imported_root = semantic_index::root_scope(index.words, imported)?;
+    let d = semantic_index::latest_definition_index_by_name(index, imported, imported_root, item)?;
     Some((imported, d))
 }
 
 // The definition that an identifier records; else the name at its position.
 pub fn identifier_definition(
-    file: &[u8],
-    words: &[u32],
+    index: &Index,
     m: u32,
     definition: Option<DefinitionIndex>,
     scope: FileScopeId,
@@ -247,12 +242,10 @@ pub fn identifier_definition(
     end: u32,
     name: Name,
 ) -> Option<DefinitionIndex>
-    ensures { IdentifierDefinition file.now words.now m definition scope start end name result }
+    ensures { IdentifierDefinition index.now.file.now index.now.words.now m definition scope start end name result }
 {
     match definition {
         Some(d) => Some(d),
-        None => {
-            semantic_index::resolve_name_at_position(file, words, m, name, scope, start, end)
-        }
+        None => { semantic_index::resolve_name_at_position(index, m, name, scope, start, end) }
     }
 }

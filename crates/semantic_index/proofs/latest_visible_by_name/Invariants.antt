@@ -7,4 +7,4 @@ use Rattle.records.specs.Meaning.{name_of}
 use Rattle.semantic_index.proofs.latest_visible_by_name.Given as goal
 
 abbrev pub invariant-loop-d : goal.invariant-loop-d
-invariant-loop-d l = latest_visible_by_name (module_row l.file l.words l.m) l.s.0 (name_of l.file l.name) l.start l.end ≡ last (named_and_visible (module_row l.file l.words l.m) l.s.0 (name_of l.file l.name) l.start l.end) (each (definition_row l.file l.words) l.first l.d)
+invariant-loop-d l = latest_visible_by_name (module_row l.index.file.now l.index.words.now l.m) l.s.0 (name_of l.index.file.now l.name) l.start l.end ≡ last (named_and_visible (module_row l.index.file.now l.index.words.now l.m) l.s.0 (name_of l.index.file.now l.name) l.start l.end) (each (definition_row l.index.file.now l.index.words.now) l.first l.d)

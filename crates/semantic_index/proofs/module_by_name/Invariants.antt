@@ -7,4 +7,4 @@ use Rattle.records.specs.Meaning.{name_of}
 use Rattle.semantic_index.proofs.module_by_name.Given as goal
 
 abbrev pub invariant-loop-m : goal.invariant-loop-m
-invariant-loop-m l = module_by_name (index_of l.file l.words) (name_of l.file l.name) ≡ first_from (module_named (name_of l.file l.name)) (module_row l.file l.words) 0 l.count l.m
+invariant-loop-m l = module_by_name (index_of l.index.file.now l.index.words.now) (name_of l.index.file.now l.name) ≡ first_from (module_named (name_of l.index.file.now l.name)) (module_row l.index.file.now l.index.words.now) 0 l.count l.m

@@ -1,5 +1,5 @@
 -- `type_table::field_type` meets its contract. Assumes nothing.
-use Prim.Native.Nat.{◌≤◌, ◌-◌}
+use Prim.Native.Nat.{◌≤◌}
 use mathlib.Core.Path.{◌≡◌}
 use lib.ListN.{length, drop}
 use Rattle.records.specs.Meaning.{name_of}
@@ -9,6 +9,3 @@ use Rattle.type_table.proofs.field_type.Given as goal
 
 abbrev pub invariant-loop-i : goal.invariant-loop-i
 invariant-loop-i l = (l.i ≤ length l.names) × (length l.names ≤ length l.items) × (field_type (fields_of l.file l.names l.items) (name_of l.file l.name) ≡ field_type (fields_of l.file (drop l.i l.names) (drop l.i l.items)) (name_of l.file l.name))
-
-abbrev pub decreases-loop-i : goal.decreases-loop-i
-decreases-loop-i l = length l.names - l.i

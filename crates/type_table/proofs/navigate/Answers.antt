@@ -1,7 +1,7 @@
 -- `type_table::navigate` meets its contract. Assumes nothing.
 use mathlib.Core.Path.{sym, ap, ◌∙◌}
 use Rattle.type_table.specs.Layout.{table_of}
-use Rattle.type_table.specs.Meaning.{found_types_of, found_type_of}
+use Rattle.type_table.specs.Meaning.{found_types_of}
 use Rattle.type_table.specs.Reads.{navigate_read}
 use Rattle.type_table.proofs.Reading.{path_end, path_no_tuple, path_no_element, path_on}
 use native.Mathlib.Omega.{arith}
@@ -15,11 +15,11 @@ returns-in_default c =
 pub returns-in_default-item : goal.returns-in_default-item
 unfolding navigate_read
 returns-in_default-item c =
-    λ file. record { same = path_no_element c.args.words.now (table_of file c.args.types.now) c.loop-i.at c.args.path.first c.args.path.count c.loop-i.i (omega arith) (c.tuple_of.ensures.same file) (ap (found_types_of c.args.types.now) c.in-Found.is) c.item.ensures c.item_value-index.ensures (ap found_type_of c.in_default-item.is) ∙ sym (c.loop-i.invariant.1 file) }
+    λ file. record { same = path_no_element c.args.words.now (table_of file c.args.types.now) c.loop-i.at c.args.path.first c.args.path.count c.loop-i.i (omega arith) (c.tuple_of.ensures.same file) (ap (found_types_of c.args.types.now) c.in-Some.is) c.item.ensures c.item_value-index.ensures c.in_default-item.is ∙ sym (c.loop-i.invariant.1 file) }
 
 pub loop-i-preserved : goal.loop-i-preserved
 loop-i-preserved c =
-    (omega arith, λ file. c.loop-i.invariant.1 file ∙ path_on c.args.words.now (table_of file c.args.types.now) c.loop-i.at c.args.path.first c.args.path.count c.loop-i.i (omega arith) (c.tuple_of.ensures.same file) (ap (found_types_of c.args.types.now) c.in-Found.is) c.item.ensures c.item_value-index.ensures (ap found_type_of c.in-Found-item.is))
+    (omega arith, λ file. c.loop-i.invariant.1 file ∙ path_on c.args.words.now (table_of file c.args.types.now) c.loop-i.at c.args.path.first c.args.path.count c.loop-i.i (omega arith) (c.tuple_of.ensures.same file) (ap (found_types_of c.args.types.now) c.in-Some.is) c.item.ensures c.item_value-index.ensures c.in-Some-item.is)
 
 pub returns : goal.returns
 unfolding navigate_read

@@ -1,5 +1,5 @@
 -- `type_table::same_names` meets its contract. Assumes nothing.
-use Prim.Native.Nat.{◌≤◌, ◌-◌}
+use Prim.Native.Nat.{◌≤◌}
 use mathlib.Core.Path.{◌≡◌}
 use lib.ListN.{length, drop}
 use Rattle.model.specs.Common.{eq_numbers}
@@ -11,6 +11,3 @@ use Rattle.type_table.proofs.same_names.Given as goal
 
 abbrev pub invariant-loop-i : goal.invariant-loop-i
 invariant-loop-i l = (l.i ≤ length l.a) × (length l.a ≡ length l.b) × (eq_names (map (name_by l.file) l.a) (map (name_by l.file) l.b) ≡ all_pairs (λ x y. eq_numbers (name_by l.file x) (name_by l.file y)) (drop l.i l.a) (drop l.i l.b))
-
-abbrev pub decreases-loop-i : goal.decreases-loop-i
-decreases-loop-i l = length l.a - l.i

@@ -2,9 +2,9 @@
 use mathlib.Core.Path.{ap, ◌∙◌}
 use Rattle.std.specs.Prelude.{slice_get}
 use Rattle.model.specs.Common.{let_some}
-use Rattle.type_table.specs.Meaning.{found_types_of, found_type_of}
+use Rattle.type_table.specs.Meaning.{found_types_of}
 use Rattle.type_table.specs.Reads.{tuple_element_read}
-use Rattle.type_table.proofs.Reading.{some_read, none_read}
+use Rattle.type_table.proofs.Reading.{some_read, none_read, read_or}
 use Rattle.type_table.proofs.tuple_element.Goals as goal
 
 pub returns-in_default : goal.returns-in_default
@@ -12,20 +12,11 @@ unfolding tuple_element_read
 returns-in_default c =
     λ file. record { same = none_read 4 (λ elements. let_some (slice_get elements c.args.i) 4 (λ u. u)) (c.tuple_of.ensures.same file) (ap (found_types_of c.args.types.now) c.in_default.is) }
 
-pub returns-in_default-item : goal.returns-in_default-item
-unfolding tuple_element_read
-returns-in_default-item c =
-    λ file. record {
-      same =
-          none_read 4 (λ u. u) c.item.ensures (ap found_type_of c.in_default-item.is)
-          ∙ some_read 4 (λ elements. let_some (slice_get elements c.args.i) 4 (λ u. u)) (c.tuple_of.ensures.same file) (ap (found_types_of c.args.types.now) c.in-Found.is);
-    }
-
 pub returns : goal.returns
 unfolding tuple_element_read
 returns c =
     λ file. record {
       same =
-          some_read 4 (λ u. u) c.item.ensures (ap found_type_of c.in-Found-item.is)
-          ∙ some_read 4 (λ elements. let_some (slice_get elements c.args.i) 4 (λ u. u)) (c.tuple_of.ensures.same file) (ap (found_types_of c.args.types.now) c.in-Found.is);
+          c.unwrap_or.ensures ∙ read_or 4 c.item.ensures
+          ∙ some_read 4 (λ elements. let_some (slice_get elements c.args.i) 4 (λ u. u)) (c.tuple_of.ensures.same file) (ap (found_types_of c.args.types.now) c.in-Some.is);
     }

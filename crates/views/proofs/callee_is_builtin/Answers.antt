@@ -12,7 +12,7 @@ returns-in_default-expression_at c =
 
 pub returns-in_default-node : goal.returns-in_default-node
 returns-in_default-node c =
-    record { same = callee_other _ _ _ c.in-Some.is _ (an_expression _ _ _ _ (c.expression_at.ensures _) _ c.in-Some-expression_at.is) (other_than_identifier c.args.file.now c.args.words.now c.in-Some-expression_at.callee_info.node c.in_default-node.in_default-node-own.keys2) }
+    record { same = callee_other _ _ _ c.in-Some.is _ (an_expression _ _ _ _ (c.expression_at.ensures _) _ c.in-Some-expression_at.is) (other_than_identifier c.args.index.now.file.now c.args.index.now.words.now c.in-Some-expression_at.callee_info.node c.in_default-node.in_default-node-own.keys2) }
 
 pub returns : goal.returns
 returns c =

@@ -7,4 +7,4 @@ use Rattle.views.proofs.Fields.{type_from}
 use Rattle.views.proofs.field_type.Given as goal
 
 abbrev pub invariant-loop-i : goal.invariant-loop-i
-invariant-loop-i l = field_type (names_with_types_at l.file l.words l.first l.count) (name_of l.file l.name) ≡ type_from l.file l.words (name_of l.file l.name) l.first l.count l.i
+invariant-loop-i l = field_type (names_with_types_at l.index.file.now l.index.words.now l.first l.count) (name_of l.index.file.now l.name) ≡ type_from l.index.file.now l.index.words.now (name_of l.index.file.now l.name) l.first l.count l.i

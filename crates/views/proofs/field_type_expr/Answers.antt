@@ -11,7 +11,7 @@ returns-in_err-parent_info c = record { same = ap found_field_type_of c.from_res
 
 pub returns-in_default : goal.returns-in_default
 returns-in_default c =
-    record { same = no_literal _ _ _ _ (an_expression _ _ _ _ (c.expression_at.ensures _) _ c.in_ok-parent_info.was) (other_than_struct_literal c.args.file.now c.args.words.now c.in_ok-parent_info.parent_info.node c.in_default.in_default-own.keys2) }
+    record { same = no_literal _ _ _ _ (an_expression _ _ _ _ (c.expression_at.ensures _) _ c.in_ok-parent_info.was) (other_than_struct_literal c.args.index.now.file.now c.args.index.now.words.now c.in_ok-parent_info.parent_info.node c.in_default.in_default-own.keys2) }
 
 pub returns-in_err-d : goal.returns-in_err-d
 returns-in_err-d c =

@@ -7,4 +7,4 @@ returns-in-Struct c = a_struct _ _ _ _ _ _ c.in-Struct.is c.field_type.ensures
 
 pub returns-in_default : goal.returns-in_default
 returns-in_default c =
-    other_than_struct c.args.file.now c.args.words.now _ c.args.kind c.in_default.in_default-own.keys2
+    other_than_struct c.args.index.now.file.now c.args.index.now.words.now _ c.args.kind c.in_default.in_default-own.keys2
