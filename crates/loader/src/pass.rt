@@ -45,16 +45,7 @@ pub fn first_pass(
     requires { (length file.now ≤ 65536) × (length words.old ≡ 16384) × (from ≤ length file.now) }
     ensures { FirstPut file.now words.old version (drop from file.now) words.new result }
 {
-    let mut n = Counts {
-        stage: 0,
-        modules: 0,
-        scopes: 0,
-        types: 0,
-        definitions: 0,
-        expressions: 0,
-        questions: 0,
-        items: 0,
-    };
+    let mut n = Counts::default();
     let mut at = from;
     let mut line: u32 = 2;
     while at < file.len() {

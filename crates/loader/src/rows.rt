@@ -13,7 +13,7 @@ use format::{
 };
 
 // What was read: the stage of the last line, and how many records of each kind and items there are.
-#[derive(Clone, Copy)]
+#[derive(Clone, Copy, Default)]
 pub struct Counts {
     pub stage: u32,
     pub modules: usize,
@@ -171,11 +171,14 @@ pub fn read_type(file: &[u8], at: usize, words: &mut [u32], n: Counts) -> Option
     Some((tail.count, tail.end))
 }
 
+// The number of `let`.
+const LET: u32 = 3;
+
 // A let: "v is the destructured value; with `-` there is no path".
 fn path_fits(kind: u32, value: u32, count: usize) -> bool
     ensures { result ≡ path_fits kind value count }
 {
-    kind != 3 || value != 0 || count == 0
+    kind != LET || value != 0 || count == 0
 }
 
 // D

@@ -56,17 +56,16 @@ pub fn type_shape(word: TypeWord) -> Shape
     ensures { result ≡ type_shape word }
 {
     match word {
-        TypeWord::Felt => bare(),
-        TypeWord::Bool => bare(),
-        TypeWord::U32 => bare(),
+        TypeWord::Felt | TypeWord::Bool | TypeWord::U32 | TypeWord::Other => bare(),
         TypeWord::Custom => one(Kind::Name),
         TypeWord::Ptr => one(Kind::Number),
         TypeWord::Tuple => listed(bare(), Listed::Numbers),
         TypeWord::Array => two(Kind::Number, Kind::Size),
-        TypeWord::Other => bare(),
     }
 }
 
+// The number of a word in a row, if it is one of the table's. Each kind of word has a function of its own: those of a trait would have the same
+// bodies.
 pub fn type_number(word: TypeWord) -> Option<u32>
     ensures { result ≡ known 7 (type_number word) }
 {
@@ -89,8 +88,7 @@ pub fn definition_shape(word: DefinitionWord) -> Shape
         ),
         DefinitionWord::Param => one(Kind::Number),
         DefinitionWord::Use => two(Kind::Name, Kind::Name),
-        DefinitionWord::Loop => bare(),
-        DefinitionWord::Other => bare(),
+        DefinitionWord::Loop | DefinitionWord::Other => bare(),
     }
 }
 
@@ -107,12 +105,12 @@ pub fn origin_shape(word: OriginWord) -> Shape
     ensures { result ≡ origin_shape word }
 {
     match word {
-        OriginWord::Plain => two(Kind::Unused, Kind::Unused),
         OriginWord::Field => two(Kind::Number, Kind::Name),
         OriginWord::Arg => two(Kind::Number, Kind::Number),
         OriginWord::Assign => two(Kind::Number, Kind::Unused),
-        OriginWord::Return => two(Kind::Unused, Kind::Unused),
-        OriginWord::Cond => two(Kind::Unused, Kind::Unused),
+        OriginWord::Plain | OriginWord::Return | OriginWord::Cond => {
+            two(Kind::Unused, Kind::Unused)
+        }
         OriginWord::Other => bare(),
     }
 }
@@ -131,7 +129,6 @@ pub fn node_shape(word: NodeWord) -> Shape
 {
     match word {
         NodeWord::Lit => one(Kind::MaybeName),
-        NodeWord::Bool => bare(),
         NodeWord::Ident => one(Kind::Name),
         NodeWord::Un => two(Kind::UnaryOp, Kind::MaybeNumber),
         NodeWord::Bin => three(Kind::BinaryOp, Kind::MaybeNumber, Kind::MaybeNumber),
@@ -146,7 +143,7 @@ pub fn node_shape(word: NodeWord) -> Shape
         NodeWord::Cast => one(Kind::Number),
         NodeWord::New => two(Kind::Number, Kind::MaybeNumber),
         NodeWord::Paren => one(Kind::MaybeNumber),
-        NodeWord::Other => bare(),
+        NodeWord::Bool | NodeWord::Other => bare(),
     }
 }
 
