@@ -8,7 +8,7 @@ ghost use Rattle.records.specs.Layout.{name_by};
 ghost use Rattle.records.specs.Meaning.{name_of, numbers_of, names_with_types_of, suffix_of};
 ghost use Rattle.resolution.specs.TypeData.{TypeData as Data};
 ghost use Rattle.resolution.specs.Types.{eq_names, data_of, field_type, find_type, as_pointer, as_struct};
-ghost use Rattle.resolution.specs.TableOk.{row_types};
+ghost use Rattle.resolution.specs.TableOk.{row_types, TableOk};
 ghost use Rattle.resolution.specs.Views.{typed_fields, suffix_type};
 ghost use Rattle.type_table.specs.Layout.{part, head_at, items_at, names_at, type_count, item_count};
 ghost use Rattle.type_table.specs.Layout.{types_of, data_from, AllBelow, table_of, Sound, Canonical};
@@ -100,6 +100,16 @@ pub enum TypeData {
     Struct(u32, u32, TypeList),
     // module, definition, parameters, return type
     Function(u32, u32, TypeList, u32),
+}
+
+// A table as interning leaves it, with the file that its names are of: read together where one goes down by the types' numbers, an element's below its holder's.
+#[derive(Clone, Copy)]
+pub struct Types<'a> {
+    pub file: &'a [u8],
+    pub words: &'a [u32],
+    pub ghost sound: { Sound file.now words.now },
+    // Truncated, since nothing shows that the fact has one proof only.
+    pub ghost table_ok: { ∥ TableOk (table_of file.now words.now) ∥₁ },
 }
 
 // ------------------------------------------------------------------ the words of a row
