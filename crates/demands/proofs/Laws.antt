@@ -8,33 +8,37 @@ use mathlib.Core.List.{List, [], ◌∷◌}
 use lib.ListN.{length}
 use lib.Dec.{ltb}
 use borrow.Author.Tests.{ltb-false}
+use Rattle.std.specs.Prelude.{Result, Ok, Err}
 use Rattle.model.specs.Records.{Index}
 use Rattle.resolution.specs.Types.{Table}
 use Rattle.resolution.specs.Programs.{Demand}
 use Rattle.resolution.specs.TypeResolution.{program}
 use Rattle.resolution.specs.Run.{refused, run, is_open, demand}
 use Rattle.resolution.proofs.RunLaws.{demand_open, demand_full, demand_runs}
-use Rattle.demands.specs.declared.Entered.{Entered}
-use Rattle.demands.specs.declared.Entered.TheVariants.{At, Refused}
+use Rattle.refusals.specs.declared.Refusal.{Refusal}
+use Rattle.refusals.specs.Numbers.{refusal_number}
 use Rattle.demands.specs.Meaning.{open_demands, cleared, cleared_places}
 use Rattle.demands.specs.Promises.{Opens}
 
 -- ------------------------------------------------------------------ which test decided
 
-entered_at : (b l : Bool) (depth n : ℕ) → At n ≡ cond b (Refused 7) (cond l (At (depth + 1)) (Refused 8)) → b ≡ false
-entered_at true l depth n e = let z : ◌≡◌ {A = ℕ} 0 1 = cc in absurd (omega arith)
+entered_at : (b l : Bool) (depth n : ℕ) → Ok n ≡ cond b (Err Refusal.OpenDemand) (cond l (Ok (depth + 1)) (Err Refusal.Depth)) → b ≡ false
+entered_at true l depth n e = absurd cc
 entered_at false l depth n e = refl
 
 module _ (depth : ℕ) (index : Index) (opened : List Demand) (d : Demand) (table : Table) where
-  refused_by : (n : ℕ) (b l : Bool) → is_open opened d ≡ b → ltb depth 256 ≡ l → depth ≤ 256
-      → Refused n ≡ cond b (Refused 7) (cond l (At (depth + 1)) (Refused 8)) → demand (256 - depth) index opened d table ≡ refused n
-  refused_by n true l hb hl le e = let z : 7 ≡ n = cc in demand_open (256 - depth) index opened d table hb ∙ ap refused z
-  refused_by n false true hb hl le e = let z : ◌≡◌ {A = ℕ} 0 1 = cc in absurd (omega arith)
-  refused_by n false false hb hl le e =
-      let z : 8 ≡ n = cc in
+  refused_by : (why : Refusal) (b l : Bool) → is_open opened d ≡ b → ltb depth 256 ≡ l → depth ≤ 256
+      → Err why ≡ cond b (Err Refusal.OpenDemand) (cond l (Ok (depth + 1)) (Err Refusal.Depth))
+      → demand (256 - depth) index opened d table ≡ refused (refusal_number why)
+  refused_by why true l hb hl le e =
+      let z : Refusal.OpenDemand ≡ why = cc in
+      demand_open (256 - depth) index opened d table hb ∙ ap (λ x. refused (refusal_number x)) z
+  refused_by why false true hb hl le e = absurd cc
+  refused_by why false false hb hl le e =
+      let z : Refusal.Depth ≡ why = cc in
       let past = ltb-false depth 256 hl in
       let none : 256 - depth ≡ 0 = omega arith in
-      ap (λ free. demand free index opened d table) none ∙ demand_full index opened d table hb ∙ ap refused z
+      ap (λ free. demand free index opened d table) none ∙ demand_full index opened d table hb ∙ ap (λ x. refused (refusal_number x)) z
 
   runs_by : (n : ℕ) → n ≡ depth + 1 → depth < 256 → is_open opened d ≡ false
       → demand (256 - depth) index opened d table ≡ run (demand (256 - n) index (d ∷ opened)) (program index d) table
@@ -44,18 +48,18 @@ module _ (depth : ℕ) (index : Index) (opened : List Demand) (d : Demand) (tabl
 
 -- ------------------------------------------------------------------ for callers
 
-module _ {d : Demand} {depth : ℕ} {places places' : List (List ℕ)} {r : Entered} (o : Opens d depth places places' r) where
+module _ {d : Demand} {depth : ℕ} {places places' : List (List ℕ)} {r : Result ℕ Refusal} (o : Opens d depth places places' r) where
   -- there is as much room afterwards
   pub still_long : 256 ≤ length places → 256 ≤ length places'
   still_long long = let same = o.same_length in omega (arith, same)
 
   -- the definition's `demand` gives the same refusal
-  pub refused_demand : {n : ℕ} → r ≡ Refused n → depth ≤ 256 → (index : Index) (table : Table)
-      → demand (256 - depth) index (open_demands depth places) d table ≡ refused n
-  refused_demand {n} h le index table = refused_by depth index (open_demands depth places) d table n (is_open (open_demands depth places) d) (ltb depth 256) refl refl le (sym h ∙ o.outcome)
+  pub refused_demand : {why : Refusal} → r ≡ Err why → depth ≤ 256 → (index : Index) (table : Table)
+      → demand (256 - depth) index (open_demands depth places) d table ≡ refused (refusal_number why)
+  refused_demand {why} h le index table = refused_by depth index (open_demands depth places) d table why (is_open (open_demands depth places) d) (ltb depth 256) refl refl le (sym h ∙ o.outcome)
 
   -- the definition's `demand` runs the demand's program with one place fewer and the demand among the open ones
-  pub opened_demand : {n : ℕ} → r ≡ At n → (index : Index) (table : Table)
+  pub opened_demand : {n : ℕ} → r ≡ Ok n → (index : Index) (table : Table)
       → demand (256 - depth) index (open_demands depth places) d table
       ≡ run (demand (256 - n) index (open_demands n places')) (program index d) table
   opened_demand {n} h index table =
@@ -64,7 +68,7 @@ module _ {d : Demand} {depth : ℕ} {places places' : List (List ℕ)} {r : Ente
       ∙ ap (λ os. run (demand (256 - n) index os) (program index d) table) (sym (o.pushed n h))
 
   -- one place deeper there is room to ask again, with fewer places free
-  pub next_below : {n : ℕ} → r ≡ At n → n ≤ 256
+  pub next_below : {n : ℕ} → r ≡ Ok n → n ≤ 256
   next_below {n} h = let at = o.next n h in omega (arith, at.0, at.1)
 
 -- ------------------------------------------------------------------ going back
@@ -78,7 +82,7 @@ open_tail n l l' e = ap tail e
     tail (x ∷ xs) = xs
 
 -- whoever keeps the open demands one place deeper keeps them here
-pub kept_through : {d : Demand} {depth : ℕ} {places places₁ : List (List ℕ)} {r : Entered} → Opens d depth places places₁ r → {n : ℕ} → r ≡ At n
+pub kept_through : {d : Demand} {depth : ℕ} {places places₁ : List (List ℕ)} {r : Result ℕ Refusal} → Opens d depth places places₁ r → {n : ℕ} → r ≡ Ok n
     → (places₂ : List (List ℕ)) → open_demands n places₂ ≡ open_demands n places₁ → open_demands depth places₂ ≡ open_demands depth places
 kept_through {depth} {places} {places₁} o {n} h places₂ e =
     let same : suc depth ≡ n = sym ((o.next n h).0 ∙ add-one depth) in

@@ -1,5 +1,4 @@
 -- Laws of the list of open demands. Assumes nothing.
-mod Same
 mod Places
 pub mod Entering
 pub mod Laws

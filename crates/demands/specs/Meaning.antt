@@ -5,57 +5,61 @@ use Rattle.model.specs.Limits.{max_open_demands}
 use Rattle.resolution.specs.Programs.{Demand}
 use Rattle.demands.specs.declared.OpenDemand.{OpenDemand}
 
--- ------------------------------------------------------------------ a place
+-- ------------------------------------------------------------------ a demand, and its place
 
--- past the end
-abbrev pub no_demand : OpenDemand
-no_demand = record { kind = 0; module_number = 0; «record» = 0; within = 0; context = 0 }
+abbrev pub demand_of : OpenDemand → Demand
+demand_of (OpenDemand.«Type» m t s) = Demand.type m t s.0
+demand_of (OpenDemand.Definition m d) = Demand.definition m d.0
+demand_of (OpenDemand.Expression m e context) = Demand.expression m e.0 context
+demand_of (OpenDemand.Struct m d) = Demand.struct m d.0
+demand_of (OpenDemand.Signature m d) = Demand.signature m d.0
 
 abbrev pub zero_place : List ℕ
 zero_place = 0 ∷ 0 ∷ 0 ∷ 0 ∷ 0 ∷ []
 
--- the five words of a place, and what they say
+-- five words: the kind, the module, the record, whether there is a context, and the scope or context
 abbrev pub place_of : OpenDemand → List ℕ
-place_of d = d.kind ∷ d.module_number ∷ d.«record» ∷ d.within ∷ d.context ∷ []
-
-abbrev pub of_place : List ℕ → OpenDemand
-of_place place =
-    record {
-      kind = get_or place 0 0;
-      module_number = get_or place 1 0;
-      «record» = get_or place 2 0;
-      within = get_or place 3 0;
-      context = get_or place 4 0;
-    }
-
-unfoldable pub place_at : List (List ℕ) → ℕ → OpenDemand
-place_at places i = of_place (get_or places i [])
+place_of (OpenDemand.«Type» m t s) = 0 ∷ m ∷ t ∷ 0 ∷ s.0 ∷ []
+place_of (OpenDemand.Definition m d) = 1 ∷ m ∷ d.0 ∷ 0 ∷ 0 ∷ []
+place_of (OpenDemand.Expression m e None) = 2 ∷ m ∷ e.0 ∷ 0 ∷ 0 ∷ []
+place_of (OpenDemand.Expression m e (Some t)) = 2 ∷ m ∷ e.0 ∷ 1 ∷ t ∷ []
+place_of (OpenDemand.Struct m d) = 3 ∷ m ∷ d.0 ∷ 0 ∷ 0 ∷ []
+place_of (OpenDemand.Signature m d) = 4 ∷ m ∷ d.0 ∷ 0 ∷ 0 ∷ []
 
 -- ------------------------------------------------------------------ the demand that a place stands for
 
 -- a context that may be missing
-unfoldable pub context_by : Bool → ℕ → Option ℕ
+abbrev pub context_by : Bool → ℕ → Option ℕ
 context_by true t = Some t
 context_by false t = None
 
--- by the kind; the scope and the context stand in the same word
-unfoldable pub demand_by : ℕ → ℕ → ℕ → Option ℕ → ℕ → Demand
+-- by the kind; the scope and the context stand in the same word, and every kind above a signature's is a signature's
+abbrev pub demand_by : ℕ → ℕ → ℕ → Option ℕ → ℕ → Demand
 demand_by zero m n context scope = Demand.type m n scope
 demand_by (suc zero) m n context scope = Demand.definition m n
 demand_by (suc (suc zero)) m n context scope = Demand.expression m n context
 demand_by (suc (suc (suc zero))) m n context scope = Demand.struct m n
 demand_by (suc (suc (suc (suc k)))) m n context scope = Demand.signature m n
 
-unfoldable pub demand_of : OpenDemand → Demand
-demand_of d =
-    demand_by d.kind d.module_number d.«record» (context_by (not (eqb d.within 0)) d.context) d.context
+abbrev pub place_demand : List ℕ → Demand
+place_demand place =
+    demand_by
+    (get_or place 0 0)
+    (get_or place 1 0)
+    (get_or place 2 0)
+    (context_by (not (eqb (get_or place 3 0) 0)) (get_or place 4 0))
+    (get_or place 4 0)
+
+-- past the end, that of zeros
+unfoldable pub place_at : List (List ℕ) → ℕ → Demand
+place_at places i = place_demand (get_or places i [])
 
 -- ------------------------------------------------------------------ the list
 
 -- the demands of the first places, the last one opened first
 unfoldable pub open_demands : ℕ → List (List ℕ) → List Demand
 open_demands zero places = []
-open_demands (suc n) places = demand_of (place_at places n) ∷ open_demands n places
+open_demands (suc n) places = place_at places n ∷ open_demands n places
 
 -- so many places at the start, or all where there are fewer, are zero; the rest stays
 unfoldable pub cleared : ℕ → List (List ℕ) → List (List ℕ)
@@ -65,28 +69,3 @@ cleared (suc n) (place ∷ places) = zero_place ∷ cleared n places
 
 abbrev pub cleared_places : List (List ℕ) → List (List ℕ)
 cleared_places places = cleared max_open_demands places
-
--- ------------------------------------------------------------------ what of a place counts
-
--- every kind above that of a signature is one
-unfoldable pub clipped : ℕ → ℕ
-clipped zero = 0
-clipped (suc zero) = 1
-clipped (suc (suc zero)) = 2
-clipped (suc (suc (suc zero))) = 3
-clipped (suc (suc (suc (suc k)))) = 4
-
--- whether the last word counts: the scope of a type does, and the context of an expression that has one
-unfoldable pub has_more : ℕ → ℕ → Bool
-has_more zero within = true
-has_more (suc zero) within = false
-has_more (suc (suc zero)) within = not (eqb within 0)
-has_more (suc (suc (suc k))) within = false
-
--- the last word where it counts
-unfoldable pub more_by : Bool → ℕ → List ℕ
-more_by true t = t ∷ []
-more_by false t = []
-
-unfoldable pub more_of : OpenDemand → List ℕ
-more_of d = more_by (has_more d.kind d.within) d.context

@@ -1,5 +1,5 @@
 -- Names and `-`, from a position in the file. Assumes nothing.
-use Prim.Native.Nat.{ℕ, ◌+◌, ◌≤◌, ◌<◌}
+use Prim.Native.Nat.{ℕ, ◌+◌, ◌≤◌, ◌<◌, max}
 use mathlib.Core.Path.{◌≡◌, refl, sym, ap, ◌∙◌}
 use mathlib.Core.List.{[], ◌∷◌}
 use mathlib.Core.Bool.{Bool, true, false, not, ◌&&◌, false≢true}
@@ -8,7 +8,7 @@ use native.Mathlib.Omega.{arith}
 use lib.ListN.{length, take, drop, get_or, length-drop, drop_of_length-le}
 use lib.Seq.{drop-drop}
 use lib.Dec.{leb, ltb}
-use borrow.Author.Tests.{le-leb, lt-leb, eq-eqb, ne_eqb}
+use borrow.Author.Tests.{le-leb, lt-leb, eq-eqb, ne_eqb, leb-true, leb-false}
 use Rattle.model.specs.Common.{Text, is_empty, eq_numbers}
 use Rattle.model.proofs.Tests.{ltb_lt, ltb-false, eq_numbers_sound}
 use Rattle.format.specs.declared.Kind.{Kind}
@@ -16,7 +16,7 @@ use Rattle.format.specs.Fields.{stops, field_of, behind, only_if, is_dash, all_v
 use Rattle.records.specs.Layout.{bytes_at}
 use Rattle.records.proofs.Packing.{each_part}
 use Rattle.words.proofs.Bytes.{here, field_stop, field_more, field_out}
-use Rattle.fields.specs.Held.{field_as, visible_run}
+use Rattle.fields.specs.Held.{may_be_absent, field_as, visible_run}
 use Rattle.fields.proofs.Numbers.{behind_at}
 
 pub not_yes : (b : Bool) → not b ≡ true → b ≡ false
@@ -250,7 +250,7 @@ module _ (s : Text) (e : ℕ) where
   unfolding value_of field_as
   unused_no q = ap (λ b. reading (behind (drop e s)) (only_if b absent)) q
 
-  pub maybe_number_yes : is_dash (field_of (drop e s)) ≡ true → field_as (value_of Kind.MaybeNumber) (drop e s) ≡ Some (record { value = absent; rest = drop (e + 1) s })
+  maybe_number_yes : is_dash (field_of (drop e s)) ≡ true → field_as (value_of Kind.MaybeNumber) (drop e s) ≡ Some (record { value = absent; rest = drop (e + 1) s })
   unfolding value_of
   maybe_number_yes q = or_dash_yes (λ t. numbered (number_of 65535 t)) q
 
@@ -258,10 +258,33 @@ module _ (s : Text) (e : ℕ) where
   unfolding value_of
   maybe_number_no q = or_dash_no (λ t. numbered (number_of 65535 t)) q
 
-  pub maybe_name_yes : is_dash (field_of (drop e s)) ≡ true → field_as (value_of Kind.MaybeName) (drop e s) ≡ Some (record { value = absent; rest = drop (e + 1) s })
+  maybe_name_yes : is_dash (field_of (drop e s)) ≡ true → field_as (value_of Kind.MaybeName) (drop e s) ≡ Some (record { value = absent; rest = drop (e + 1) s })
   unfolding value_of
   maybe_name_yes q = or_dash_yes name_value q
 
   pub maybe_name_no : is_dash (field_of (drop e s)) ≡ false → field_as (value_of Kind.MaybeName) (drop e s) ≡ field_as name_value (drop e s)
   unfolding value_of
   maybe_name_no q = or_dash_no name_value q
+
+  -- a `-` that the kind allows
+  pub absent_yes : (k : Kind) → (may_be_absent k && is_dash (field_of (drop e s))) ≡ true
+      → field_as (value_of k) (drop e s) ≡ Some (record { value = absent; rest = drop (e + 1) s })
+  absent_yes Kind.Nothing q = absurd (false≢true q)
+  absent_yes Kind.Number q = absurd (false≢true q)
+  absent_yes Kind.MaybeNumber q = maybe_number_yes q
+  absent_yes Kind.Position q = absurd (false≢true q)
+  absent_yes Kind.Size q = absurd (false≢true q)
+  absent_yes Kind.Name q = absurd (false≢true q)
+  absent_yes Kind.MaybeName q = maybe_name_yes q
+  absent_yes Kind.UnaryOp q = absurd (false≢true q)
+  absent_yes Kind.BinaryOp q = absurd (false≢true q)
+  absent_yes Kind.Unused q = unused_yes q
+
+-- the visible bytes from `from` on have their end behind the text's last byte
+pub run_end_at : (s : Text) (from e : ℕ) → (from ≤ length s → e ≤ length s) → length s ≤ e
+    → e + length (visible_run (drop e s)) ≡ from + length (visible_run (drop from s)) → max from (length s) ≡ from + length (visible_run (drop from s))
+run_end_at s from e within out same = by (leb from (length s)) refl
+  where
+    by : (b : Bool) → leb from (length s) ≡ b → max from (length s) ≡ from + length (visible_run (drop from s))
+    by true t = omega (arith, leb-true from (length s) t, within (leb-true from (length s) t), ap length (run_out s e out))
+    by false f = omega (arith, leb-false from (length s) f, ap length (run_out s from (omega (arith, leb-false from (length s) f))))

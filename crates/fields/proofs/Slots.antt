@@ -11,12 +11,10 @@ use Rattle.model.specs.Common.{Text, eq_numbers, first}
 use Rattle.format.specs.declared.Kind.{Kind}
 use Rattle.format.specs.Words.{is_keyword, place_in, unary_op_words, binary_op_words}
 use Rattle.format.specs.Fields.{stops, field_of, behind, is_name, plain_number, number_of, absent, numbered, name_value, or_dash, value_of, Read, reading, behind_tab, slot_field, is_nothing, slot}
-use Rattle.words.specs.declared.Found.{Found}
-use Rattle.words.specs.Packed.{candidate_place, found_is}
+use Rattle.words.specs.Packed.{candidate_place}
 use Rattle.words.proofs.Bytes.{here}
 use Rattle.words.proofs.Tables.{maps, candidate_first}
 use Rattle.format.specs.Lines.{word_here}
-use Rattle.fields.specs.declared.Value as held
 use Rattle.fields.specs.declared.Slot.{Slot}
 use Rattle.fields.specs.Held.{value_is, slot_is, field_as}
 use Rattle.fields.proofs.Numbers.{behind_at}
@@ -48,9 +46,9 @@ field_fits s p h = omega (arith, field_within (drop p s), length-drop p s)
 
 -- ------------------------------------------------------------------ an operator
 
-module _ (s : Text) (p e : ℕ) (table map : Text) (r : Found) where
-  pub operator_is : e ≡ p + length (field_of (drop p s)) → found_is r ≡ candidate_place table map (take (e - p) (drop p s))
-      → field_as (λ t. numbered (candidate_place table map t)) (drop p s) ≡ reading (drop e s) (numbered (found_is r))
+module _ (s : Text) (p e : ℕ) (table map : Text) (r : Option ℕ) where
+  pub operator_is : e ≡ p + length (field_of (drop p s)) → r ≡ candidate_place table map (take (e - p) (drop p s))
+      → field_as (λ t. numbered (candidate_place table map t)) (drop p s) ≡ reading (drop e s) (numbered (r))
   unfolding field_as
   operator_is q found =
       sym
@@ -124,11 +122,11 @@ module _ (k : Kind) (s : Text) (e : ℕ) where
 
 -- ------------------------------------------------------------------ what the definition reads where the code has read a field, and where it has not
 
-module _ (s t : Text) (k : Kind) (r : Slot) (q : slot_is s r ≡ slot k t) where
-  pub slot_found : (v : held.Value) (e : ℕ) → r ≡ Slot.Is v e → slot k t ≡ Some (record { value = value_is s v; rest = drop e s })
-  slot_found v e h = sym q ∙ ap (slot_is s) h
+module _ (s t : Text) (k : Kind) (r : Option Slot) (q : slot_is s r ≡ slot k t) where
+  pub slot_found : (x : Slot) → r ≡ Some x → slot k t ≡ Some (record { value = value_is s x.value; rest = drop x.end s })
+  slot_found x h = sym q ∙ ap (slot_is s) h
 
-  pub slot_lost : r ≡ Slot.Wrong → slot k t ≡ None
+  pub slot_lost : r ≡ None → slot k t ≡ None
   slot_lost h = sym q ∙ ap (slot_is s) h
 
 -- ------------------------------------------------------------------ a word behind a tab

@@ -1,40 +1,54 @@
 -- What the answers stand for: a text is a part of the file s, and what is left of a line is where that begins. Assumes nothing.
-use Rattle.std.specs.Prelude.{ℕ, ◌+◌, ◌-◌, ◌≤◌, ◌≡◌, true, false, ◌&&◌, [], ◌∷◌, leb, length, take, drop}
+use Rattle.std.specs.Prelude.{ℕ, Bool, ◌+◌, ◌-◌, ◌≤◌, ◌≡◌, true, false, ◌&&◌, [], ◌∷◌, leb, length, take, drop}
 use Rattle.std.specs.Prelude.{Option, None, Some}
 use Rattle.model.specs.Common.{Text, let_some}
 use Rattle.records.specs.Layout.{bytes_at}
 use Rattle.format.specs.Fields as format
+use Rattle.format.specs.declared.Kind.{Kind}
 use Rattle.fields.specs.declared.Value.{Value}
 use Rattle.format.specs.Lines as lines
 use Rattle.fields.specs.declared.Slot.{Slot}
-use Rattle.fields.specs.declared.Word.{Word}
 
 abbrev pub value_is : Text → Value → format.Value
 value_is s Value.Absent = format.Value.absent
 value_is s (Value.Number n) = format.Value.number n
 value_is s (Value.Text p n) = format.Value.text (bytes_at s p n)
 
-abbrev pub slot_is : Text → Slot → Option format.Read
-slot_is s (Slot.Is v e) = Some (record { value = value_is s v; rest = drop e s })
-slot_is s Slot.Wrong = None
+abbrev pub slot_is : Text → Option Slot → Option format.Read
+slot_is s None = None
+slot_is s (Some r) = Some (record { value = value_is s r.value; rest = drop r.end s })
 
-abbrev pub word_is : Text → Word → Option lines.WordRead
-word_is s (Word.Is p e) = Some (record { word = take (e - p) (drop p s); rest = drop e s })
-word_is s Word.Wrong = None
+-- where a word begins, and where it ends
+abbrev pub word_is : Text → Option (ℕ × ℕ) → Option lines.WordRead
+word_is s None = None
+word_is s (Some w) = Some (record { word = take (w.1 - w.0) (drop w.0 s); rest = drop w.1 s })
 
 -- so that the word can be lent as a part of the file
-abbrev pub Inside : Text → Word → Type 0
-Inside s (Word.Is p e) = (p ≤ e) × (e ≤ length s)
-Inside s Word.Wrong = Unit {0}
+abbrev pub Inside : Text → Option (ℕ × ℕ) → Type 0
+Inside s None = Unit {0}
+Inside s (Some w) = (w.0 ≤ w.1) × (w.1 ≤ length s)
 
 -- the word behind the tab that stands at `at`
-pub record IsWord (s : Text) (at : ℕ) (r : Word) : Type 0 where
+pub record IsWord (s : Text) (at : ℕ) (r : Option (ℕ × ℕ)) : Type 0 where
   pub is : word_is s r ≡ lines.word_here (drop at s)
   pub inside : Inside s r
 
 -- the field that begins here, read by f
 unfoldable pub field_as : (Text → Option format.Value) → Text → Option format.Read
 field_as f t = format.reading (format.behind t) (f (format.field_of t))
+
+-- "`-`, which means absent", may stand there
+abbrev pub may_be_absent : Kind → Bool
+may_be_absent Kind.Nothing = false
+may_be_absent Kind.Number = false
+may_be_absent Kind.MaybeNumber = true
+may_be_absent Kind.Position = false
+may_be_absent Kind.Size = false
+may_be_absent Kind.Name = false
+may_be_absent Kind.MaybeName = true
+may_be_absent Kind.UnaryOp = false
+may_be_absent Kind.BinaryOp = false
+may_be_absent Kind.Unused = true
 
 -- a number at most `most` whose first digits were n, and whose other digits stand from e on
 unfoldable pub scanned : ℕ → ℕ → Text → ℕ → Option format.Read

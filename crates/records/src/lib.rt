@@ -19,13 +19,13 @@ ghost use Rattle.records.specs.Meaning.{found_expression_of, found_question_of, 
 ghost use Rattle.records.specs.Meaning.{name_with_type_item_of};
 
 // The three index types of the Rust. Each is the record's number within its module.
-#[derive(Clone, Copy)]
+#[derive(Clone, Copy, PartialEq, Eq)]
 pub struct FileScopeId(pub u32);
 
-#[derive(Clone, Copy)]
+#[derive(Clone, Copy, PartialEq, Eq)]
 pub struct DefinitionIndex(pub u32);
 
-#[derive(Clone, Copy)]
+#[derive(Clone, Copy, PartialEq, Eq)]
 pub struct ExpressionId(pub u32);
 
 // A record's number within its module: one of the three, or a bare number, as a T has.

@@ -1,13 +1,15 @@
 -- What a field is, and how two texts compare, seen from a position. Assumes nothing.
-use Prim.Native.Nat.{ℕ, suc, ◌+◌, ◌-◌, ◌≤◌, ◌<◌}
-use mathlib.Core.Path.{◌≡◌, ap}
+use Prim.Native.Nat.{ℕ, ◌+◌, ◌-◌, ◌≤◌, ◌<◌, max}
+use mathlib.Core.Path.{◌≡◌, refl, ap, ◌∙◌}
 use mathlib.Core.List.{List, [], ◌∷◌}
-use mathlib.Core.Bool.{Bool, true, false}
+use mathlib.Core.Bool.{Bool, true, false, ◌&&◌}
 use native.Mathlib.Omega.{arith}
 use native.Mathlib.Numerals.{add-one}
+use lib.Dec.{eqb, leb}
 use lib.ListN.{length, take, drop, get_or, drop_of_length-le}
 use lib.Seq.{drop-cons}
-use borrow.Author.Tests.{eq-eqb, ne_eqb}
+use borrow.Author.Tests.{eq-eqb, ne_eqb, leb-true, leb-false}
+use Rattle.std.specs.Str.{bytes_eq}
 use Rattle.model.specs.Common.{eq_numbers}
 use Rattle.format.specs.Fields.{stops, field_of}
 
@@ -37,34 +39,30 @@ stops_lf b h = rw h
 pub stops_no : (b : ℕ) → (b ≡ 9 → ⊥) → (b ≡ 10 → ⊥) → stops b ≡ false
 stops_no b h k = rw (ne_eqb b 9 h, ne_eqb b 10 k)
 
--- ------------------------------------------------------------------ a word and the bytes from a position on
-
--- the word from i on, and as many bytes of the table from j on
-unfoldable pub left_same : List ℕ → List ℕ → ℕ → ℕ → Bool
-left_same word table i j = eq_numbers (drop i word) (take (length word - i) (drop j table))
-
-module _ (word table : List ℕ) (i j : ℕ) where
-  one_less : i < length word → length word - i ≡ suc (length word - (i + 1))
-  one_less h = omega arith
-
-  pub same_end : length word ≤ i → left_same word table i j ≡ true
-  unfolding left_same eq_numbers
-  same_end h = rw (drop_of_length-le word h, none_left)
-    where
-      none_left : length word - i ≡ 0
-      none_left = omega arith
-
-  pub same_other : i < length word → j < length table → (get_or word i 0 ≡ get_or table j 0 → ⊥) → left_same word table i j ≡ false
-  unfolding left_same eq_numbers
-  same_other h k n = rw (here word i h, here table j k, one_less h, ne_eqb (get_or word i 0) (get_or table j 0) n, eq_numbers)
-
-  pub same_more : i < length word → j < length table → get_or word i 0 ≡ get_or table j 0 → left_same word table i j ≡ left_same word table (i + 1) (j + 1)
-  unfolding left_same eq_numbers
-  same_more h k e = rw (here word i h, here table j k, one_less h, eq-eqb (get_or word i 0) (get_or table j 0) e, eq_numbers)
-
-pub same_begin : (word table : List ℕ) (at : ℕ) → eq_numbers word (take (length word) (drop at table)) ≡ left_same word table 0 at
-unfolding left_same
-same_begin word table at = ap (λ n. eq_numbers word (take n (drop at table))) none_gone
+-- a field that begins at `from` and has its end behind the text's last byte
+pub end_at : (s : List ℕ) (from e : ℕ) → (from ≤ length s → e ≤ length s) → length s ≤ e
+    → e + length (field_of (drop e s)) ≡ from + length (field_of (drop from s)) → max from (length s) ≡ from + length (field_of (drop from s))
+end_at s from e within out same = by (leb from (length s)) refl
   where
-    none_gone : length word ≡ length word - 0
-    none_gone = omega arith
+    by : (b : Bool) → leb from (length s) ≡ b → max from (length s) ≡ from + length (field_of (drop from s))
+    by true t = omega (arith, leb-true from (length s) t, within (leb-true from (length s) t), ap length (field_out s e out))
+    by false f = omega (arith, leb-false from (length s) f, ap length (field_out s from (omega (arith, leb-false from (length s) f))))
+
+-- `==` of two slices of bytes is the definitions' own comparison
+pub eq_as_numbers : (xs ys : List ℕ) → bytes_eq xs ys ≡ eq_numbers xs ys
+unfolding eq_numbers
+eq_as_numbers [] [] = refl
+eq_as_numbers [] (y ∷ ys) = refl
+eq_as_numbers (x ∷ xs) [] = refl
+eq_as_numbers (x ∷ xs) (y ∷ ys) = by (eqb x y) (eq_as_numbers xs ys)
+  where
+    by : (b : Bool) → bytes_eq xs ys ≡ eq_numbers xs ys → (b && bytes_eq xs ys) ≡ elim b [ true ↦ eq_numbers xs ys | false ↦ false ]
+    by true e = e
+    by false e = refl
+
+-- of a part of the second one
+pub part_as_numbers : (word table : List ℕ) (from n : ℕ) → bytes_eq word (take (from + n - from) (drop from table)) ≡ eq_numbers word (take n (drop from table))
+part_as_numbers word table from n = ap (λ m. bytes_eq word (take m (drop from table))) whole ∙ eq_as_numbers word (take n (drop from table))
+  where
+    whole : from + n - from ≡ n
+    whole = omega arith

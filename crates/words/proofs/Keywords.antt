@@ -1,6 +1,6 @@
 -- The word of a table of the definition that a field is, by its place in the byte string that the code has for the table. Assumes nothing.
 use Prim.Native.Nat.{ℕ, zero, suc, ◌≤◌, ◌<◌}
-use mathlib.Core.Path.{◌≡◌, refl, sym, ap, ◌∙◌}
+use mathlib.Core.Path.{◌≡◌, refl, sym, ap}
 use mathlib.Core.List.{List, [], ◌∷◌}
 use mathlib.Core.Bool.{Bool, true, false}
 use Rattle.std.specs.Prelude.{None, Some}
@@ -11,22 +11,8 @@ use lib.ListN.{length, take, length-take}
 use Rattle.format.specs.Load.{first_lines, first_line_length, version_of}
 use Rattle.std.specs.Prelude.{if◌then◌else◌}
 use Rattle.model.specs.Common.{Text, bytes, let_some, first, eq_numbers}
-use Rattle.format.specs.Words.{Keyword, is_keyword, place_in, word_at, word_in}
-use Rattle.words.specs.declared.Found.{Found}
-use Rattle.words.specs.Packed.{candidate_place, found_is}
-use Rattle.words.proofs.Tables.{maps, candidate_first, other_length}
-
--- what was found by a map that is right for the table: a word, and none
-module _ {A : Type 0} (words : List (Keyword A)) (other : A) (table map field : Text) (r : Found) (found : found_is r ≡ candidate_place table map field) (right : maps table map words ≡ true) where
-  pub word_found : (k : ℕ) (w : A) → r ≡ Found.At k → w ≡ word_at words other k → w ≡ word_in words other field
-  unfolding word_in
-  word_found k w is_at is_IsWord =
-      is_IsWord ∙ ap (λ o. let_some o other λ n. word_at words other n) (ap found_is (sym is_at) ∙ found ∙ candidate_first table map field words right)
-
-  pub word_missing : r ≡ Found.Nothing → other ≡ word_in words other field
-  unfolding word_in
-  word_missing is_nothing =
-      ap (λ o. let_some o other λ n. word_at words other n) (ap found_is (sym is_nothing) ∙ found ∙ candidate_first table map field words right)
+use Rattle.format.specs.Words.{Keyword, is_keyword, place_in, word_at}
+use Rattle.words.proofs.Tables.{other_length}
 
 -- ------------------------------------------------------------------ the word at a place
 

@@ -1,2 +1,3 @@
--- What a table of words holds.
+-- What a table of words holds, and which word a field is.
 pub mod Packed
+pub mod Meanings

@@ -3,8 +3,6 @@ use Rattle.std.specs.Prelude.{ℕ, ◌+◌, ◌-◌, ◌*◌, ◌/◌, ◌%◌, 
 use Rattle.std.specs.Prelude.{Option, None, Some}
 use Rattle.std.specs.Prelude.{if◌then◌else◌}
 use Rattle.model.specs.Common.{Text, let_some, eq_numbers}
-use Rattle.words.specs.declared.Found.{Found}
-use Rattle.words.specs.declared.Version.{Version}
 
 -- the word that stands behind its length; none where the bytes end before it does
 abbrev pub word_behind : Text → Option Text
@@ -30,11 +28,3 @@ place_if field k word = let_some word None λ w. if eq_numbers field w then Some
 -- the place of the word that the field is, if the map is right for the table: that of the one word that it can be, if it is that word
 unfoldable pub candidate_place : Text → Text → Text → Option ℕ
 candidate_place table map field = place_if field (candidate map field) (cell_word table (candidate map field))
-
-abbrev pub found_is : Found → Option ℕ
-found_is (Found.At k) = Some k
-found_is Found.Nothing = None
-
-abbrev pub version_is : Version → Option ℕ
-version_is (Version.Is n) = Some n
-version_is Version.Missing = None

@@ -1,13 +1,12 @@
--- `demands::clear` meets its contract: the places before `i` are zero. Assumes nothing.
-use mathlib.Core.Path.{◌∙◌}
-use native.Mathlib.Omega.{arith}
-use lib.ListN.{set}
-use Rattle.demands.specs.Meaning.{place_of}
-use Rattle.demands.proofs.Places.{cleared_none, cleared_more}
+-- `demands::clear` meets its contract. Assumes nothing.
+use Rattle.std.proofs.Common.{rules}
+use mathlib.Core.Path.{ap, ◌∙◌}
+use lib.ListN.{drop}
+use mathlib.Core.List.{◌++◌}
+use Rattle.demands.proofs.Places.{cleared_by}
 use Rattle.demands.proofs.clear.Goals as goal
 
-pub loop-i-init : goal.loop-i-init
-loop-i-init c = (omega arith, cleared_none _)
-
-pub loop-i-preserved : goal.loop-i-preserved
-loop-i-preserved c = (omega arith, c.put_demand.ensures ∙ (λ i. set (c.loop-i.invariant.1 i) c.loop-i.i (place_of (c.no_demand.ensures i))) ∙ cleared_more _ _)
+pub returns : goal.returns
+returns c =
+    let l = c.args.demands.now in
+    ap (λ front. front ++ drop c.min-count.result l) (c.fill.ensures.after (λ y k. search rules)) ∙ cleared_by 256 _ l c.min-count.ensures

@@ -1,20 +1,16 @@
--- `demands::is_open` meets its contract: no place before `i` has the demand. Assumes nothing.
-use mathlib.Core.Path.{ap, ◌∙◌}
-use native.Mathlib.Omega.{arith}
+-- `demands::is_open` meets its contract: the search over the first places. Assumes nothing.
+use Rattle.std.proofs.Common.{rules, tests}
+use Rattle.std.proofs.lemmas.Iterator.{YieldsList-from_slice}
+use Rattle.std.proofs.lemmas.Iterator.Search.{any_from_yields_List}
+use lib.ListN.{take}
+use mathlib.Core.Path.{◌∙◌}
 use Rattle.resolution.specs.Run.{eq_demand}
-use Rattle.demands.specs.Meaning.{demand_of}
-use Rattle.demands.proofs.Places.{open_none, open_more, open_found}
+use Rattle.demands.specs.Meaning.{demand_of, place_demand}
+use Rattle.demands.proofs.Places.{is_open_by}
 use Rattle.demands.proofs.is_open.Goals as goal
 
-pub loop-i-init : goal.loop-i-init
-loop-i-init c = (omega arith, open_none _ _)
-
-pub returns-then-same_demand : goal.returns-then-same_demand
-returns-then-same_demand c =
-    let args = c.args in
-    let loop-test = c.loop-i-test in
-    let demand-at = c.demand_at in
-    open_found _ _ _ _ _ (c.same_demand.ensures ∙ ap (λ p. eq_demand (demand_of args.d) (demand_of p)) demand-at.ensures) c.if-same_demand.true loop-test.true
-
-pub loop-i-preserved : goal.loop-i-preserved
-loop-i-preserved c = (omega arith, open_more _ _ _ _ (c.same_demand.ensures ∙ ap (λ p. eq_demand (demand_of c.args.d) (demand_of p)) c.demand_at.ensures) c.if-same_demand.false c.loop-i.invariant.1)
+pub returns : goal.returns
+returns c =
+    let a = c.args in
+    any_from_yields_List (λ place. eq_demand (demand_of a.d) (place_demand place)) _ _ _ c.any.ensures.ran (YieldsList-from_slice (take a.depth a.demands.now) cc) (λ x b q k. search (rules, tests))
+    ∙ is_open_by (demand_of a.d) a.demands.now a.depth c.requires

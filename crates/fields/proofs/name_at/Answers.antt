@@ -1,6 +1,7 @@
 -- `fields::name_at` meets its contract. Assumes nothing.
 use Prim.Native.Nat.{◌+◌, ◌-◌}
 use mathlib.Core.Path.{◌≡◌, sym, ap, ◌∙◌}
+use mathlib.Core.Logic.{inl, inr}
 use Rattle.std.specs.Prelude.{Some}
 use lib.ListN.{length, drop}
 use Rattle.model.specs.Common.{is_empty}
@@ -31,16 +32,7 @@ returns-then-n-lt1 c =
     let p = a.from in
     let q = c.visible_end-e.ensures in
     let ends = is_empty_of s (p + length (visible_run (drop p s))) (ap (λ n. is_empty (field_of (drop n s))) (sym q) ∙ sym c.is_end.ensures ∙ c.if-not-is_end.false) in
-    sym (name_empty s p ends (omega (arith, q)))
-
-pub returns-then-n-gt64 : goal.returns-then-n-gt64
-returns-then-n-gt64 c =
-    let a = c.args in
-    let s = a.file.now in
-    let p = a.from in
-    let q = c.visible_end-e.ensures in
-    let ends = is_empty_of s (p + length (visible_run (drop p s))) (ap (λ n. is_empty (field_of (drop n s))) (sym q) ∙ sym c.is_end.ensures ∙ c.if-not-is_end.false) in
-    sym (name_long s p ends (omega (arith, q)))
+    elim c.then-n-lt1.either [ inl h ↦ sym (name_empty s p ends (omega (arith, q, h))) | inr h ↦ sym (name_long s p ends (omega (arith, q, h.1))) ]
 
 pub returns : goal.returns
 returns c =

@@ -2,6 +2,7 @@
 use mathlib.Core.Path.{sym, ◌∙◌}
 use native.Mathlib.Omega.{arith}
 use Rattle.fields.proofs.Slots.{slot_nothing, slot_out, slot_no_tab, slot_is_field}
+use Rattle.fields.proofs.read_slot.Goals.{then-file-at-via-then-file-at, then-file-at-via-else-file-at+then-file-at-ne9}
 use Rattle.fields.proofs.read_slot.Goals as goal
 
 pub returns-then-is_nothing : goal.returns-then-is_nothing
@@ -12,12 +13,11 @@ returns-then-is_nothing c =
 pub returns-then-file-at : goal.returns-then-file-at
 returns-then-file-at c =
     let a = c.args in
-    sym (slot_out a.kind a.file.now a.at (sym c.is_nothing.ensures ∙ c.if-is_nothing.false) c.if-file-at.true)
-
-pub returns-then-file-at-ne9 : goal.returns-then-file-at-ne9
-returns-then-file-at-ne9 c =
-    let a = c.args in
-    sym (slot_no_tab a.kind a.file.now a.at (sym c.is_nothing.ensures ∙ c.if-is_nothing.false) (omega arith) c.if-file-at-ne9.true)
+    let some = sym c.is_nothing.ensures ∙ c.if-is_nothing.false in
+    elim c.then-file-at.branch [
+      | then-file-at-via-then-file-at h ↦ sym (slot_out a.kind a.file.now a.at some h.if-file-at.true)
+      | then-file-at-via-else-file-at+then-file-at-ne9 h ↦ sym (slot_no_tab a.kind a.file.now a.at some (omega (arith, h.if-file-at.false)) h.if-file-at-ne9.true)
+    ]
 
 pub returns : goal.returns
 returns c =

@@ -2,6 +2,7 @@
 use mathlib.Core.Path.{sym, ◌∙◌}
 use mathlib.Core.Bool.{true, false}
 use native.Mathlib.Omega.{arith}
+use Rattle.words.proofs.Bytes.{part_as_numbers}
 use Rattle.words.proofs.Tables.{place_out, place_cut, place_same}
 use Rattle.words.proofs.find_word.Goals as goal
 
@@ -16,16 +17,16 @@ returns-then-table-from c =
     let w = c.wide-n in
     place_cut a.field.now a.table.now a.map.now _ _ c.hash-h.ensures c.wide-k.ensures.0 _ w.ensures.0 (omega arith) c.if-table-from.true
 
-pub returns-then-same_word : goal.returns-then-same_word
-returns-then-same_word c =
+pub returns-then-eq : goal.returns-then-eq
+returns-then-eq c =
     let a = c.args in
     let w = c.wide-n in
     place_same a.field.now a.table.now a.map.now _ _ c.hash-h.ensures c.wide-k.ensures.0 _ w.ensures.0 (omega arith) c.if-table-from.false true
-    (sym c.if-same_word.true ∙ c.same_word.ensures)
+    (sym c.if-eq.true ∙ c.eq.ensures ∙ part_as_numbers a.field.now a.table.now _ w.result)
 
 pub returns : goal.returns
 returns c =
     let a = c.args in
     let w = c.wide-n in
     place_same a.field.now a.table.now a.map.now _ _ c.hash-h.ensures c.wide-k.ensures.0 _ w.ensures.0 (omega arith) c.if-table-from.false false
-    (sym c.if-same_word.false ∙ c.same_word.ensures)
+    (sym c.if-eq.false ∙ c.eq.ensures ∙ part_as_numbers a.field.now a.table.now _ w.result)

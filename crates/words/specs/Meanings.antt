@@ -1,0 +1,55 @@
+-- Which word a field is at each place, by the place's table. Assumes nothing.
+use mathlib.Core.Path.{◌≡◌, refl}
+use Rattle.model.specs.Common.{Text}
+use Rattle.format.specs.Words.{
+  word_in,
+  line_words,
+  scope_words,
+  type_words,
+  definition_words,
+  origin_words,
+  node_words,
+  question_words,
+  line_word_of,
+  scope_word_of,
+  type_word_of,
+  definition_word_of,
+  origin_word_of,
+  node_word_of,
+  question_word_of,
+}
+use Rattle.format.specs.declared.LineWord.{LineWord}
+use Rattle.format.specs.declared.ScopeWord.{ScopeWord}
+use Rattle.format.specs.declared.TypeWord.{TypeWord}
+use Rattle.format.specs.declared.DefinitionWord.{DefinitionWord}
+use Rattle.format.specs.declared.OriginWord.{OriginWord}
+use Rattle.format.specs.declared.NodeWord.{NodeWord}
+use Rattle.format.specs.declared.QuestionWord.{QuestionWord}
+
+pub line_by_words : (field : Text) → word_in line_words LineWord.Other field ≡ line_word_of field
+unfolding line_word_of
+line_by_words field = refl
+
+pub scope_by_words : (field : Text) → word_in scope_words ScopeWord.Other field ≡ scope_word_of field
+unfolding scope_word_of
+scope_by_words field = refl
+
+pub type_by_words : (field : Text) → word_in type_words TypeWord.Other field ≡ type_word_of field
+unfolding type_word_of
+type_by_words field = refl
+
+pub definition_by_words : (field : Text) → word_in definition_words DefinitionWord.Other field ≡ definition_word_of field
+unfolding definition_word_of
+definition_by_words field = refl
+
+pub origin_by_words : (field : Text) → word_in origin_words OriginWord.Other field ≡ origin_word_of field
+unfolding origin_word_of
+origin_by_words field = refl
+
+pub node_by_words : (field : Text) → word_in node_words NodeWord.Other field ≡ node_word_of field
+unfolding node_word_of
+node_by_words field = refl
+
+pub question_by_words : (field : Text) → word_in question_words QuestionWord.Other field ≡ question_word_of field
+unfolding question_word_of
+question_by_words field = refl
