@@ -1,40 +1,82 @@
 -- The scan of the operator rows from the top: its rule once, and what it says of both tables. Assumes nothing.
 use Prim.Native.Nat.{ℕ, suc, ◌+◌, ◌≤◌, ◌<◌}
 use mathlib.Core.Path.{◌≡◌, refl, sym, ap, ap₂, ◌∙◌}
-use mathlib.Core.Bool.{Bool, true, false, not, ◌&&◌}
+use mathlib.Core.Bool.{Bool, true, false}
 use mathlib.Core.List.{List, [], ◌∷◌}
 use native.Mathlib.Numerals.{add-one}
 use native.Mathlib.Omega.{arith}
-use borrow.Author.Tests.{not-true, not-false}
 use lib.Dec.{eqb}
-use lib.ListN.{length, get_or, drop, drop_of_length-le}
+use lib.ListN.{length, get_or, get_or-map, drop, drop_of_length-le}
 use lib.Seq.{drop-cons}
 use Rattle.std.specs.Prelude.{if◌then◌else◌}
 use Rattle.model.specs.Records.{UnaryOp, BinaryOp}
 use Rattle.resolution.specs.Types.{Table, error}
-use Rattle.resolution.specs.Compatible.{
-  UnaryOpSignature,
-  OperatorSignature,
-  unary_number,
-  binary_number,
-  unary_op_signatures,
-  binary_op_signatures,
-  unary_result,
-  binary_result,
-  are_types_compatible,
-}
-use Rattle.type_table.proofs.Bools.{stop, go_on}
+use Rattle.resolution.specs.Compatible.{UnaryOpSignature, OperatorSignature, unary_number, binary_number, unary_op_signatures, binary_op_signatures, unary_result, binary_result}
+use denote.Enum.Bare.{sameb}
+use denote.Enum.Declared.{tag_of}
+use Rattle.records.specs.declared.UnaryOp.{UnaryOp as RowUnaryOp}
+use Rattle.records.specs.declared.BinaryOp.{BinaryOp as RowBinaryOp}
+use Rattle.records.specs.contracts.UnaryOp.{the_type as the_unary}
+use Rattle.records.specs.contracts.BinaryOp.{the_type as the_binary}
+use Rattle.compatibility.specs.declared.TheConstants.{UNARY_ROWS, BINARY_ROWS}
 use Rattle.compatibility.specs.declared.UnaryRow.{UnaryRow}
 use Rattle.compatibility.specs.declared.BinaryRow.{BinaryRow}
-use Rattle.compatibility.specs.Operators.{unary_past, binary_past, unary_row_at, binary_row_at}
+use Rattle.records.specs.Meaning.{unary_op_of, binary_op_of}
+use Rattle.compatibility.specs.Operators.{unary_signature_of, binary_signature_of, unary_row_fits, binary_row_fits}
 
--- ------------------------------------------------------------------ a row's second test
+-- ------------------------------------------------------------------ operators by `==`
 
-pub fails : (r x y : Bool) → r ≡ x → not r ≡ true → false ≡ (x && y)
-fails r x y is_x e = stop x y (sym is_x ∙ not-true r e)
+tag_unary : (op : RowUnaryOp) → tag_of the_unary op ≡ unary_number (unary_op_of op)
+unfolding unary_number
+tag_unary RowUnaryOp.Not = refl
+tag_unary RowUnaryOp.Neg = refl
 
-pub passes : (r x y s : Bool) → r ≡ x → not r ≡ false → s ≡ y → s ≡ (x && y)
-passes r x y s is_x e is_y = go_on x y s (sym is_x ∙ not-false r e) is_y
+tag_binary : (op : RowBinaryOp) → tag_of the_binary op ≡ binary_number (binary_op_of op)
+unfolding binary_number
+tag_binary RowBinaryOp.Add = refl
+tag_binary RowBinaryOp.Sub = refl
+tag_binary RowBinaryOp.Mul = refl
+tag_binary RowBinaryOp.Div = refl
+tag_binary RowBinaryOp.Mod = refl
+tag_binary RowBinaryOp.Eq = refl
+tag_binary RowBinaryOp.Neq = refl
+tag_binary RowBinaryOp.Less = refl
+tag_binary RowBinaryOp.Greater = refl
+tag_binary RowBinaryOp.LessEqual = refl
+tag_binary RowBinaryOp.GreaterEqual = refl
+tag_binary RowBinaryOp.And = refl
+tag_binary RowBinaryOp.Or = refl
+tag_binary RowBinaryOp.BitwiseAnd = refl
+tag_binary RowBinaryOp.BitwiseOr = refl
+tag_binary RowBinaryOp.BitwiseXor = refl
+
+pub same_unary : (a b : RowUnaryOp) → sameb the_unary a b ≡ eqb (unary_number (unary_op_of a)) (unary_number (unary_op_of b))
+same_unary a b = ap₂ eqb (tag_unary a) (tag_unary b)
+
+pub same_binary : (a b : RowBinaryOp) → sameb the_binary a b ≡ eqb (binary_number (binary_op_of a)) (binary_number (binary_op_of b))
+same_binary a b = ap₂ eqb (tag_binary a) (tag_binary b)
+
+-- a row past the end; it serves for none
+abbrev pub unary_past : UnaryOpSignature
+unary_past = record { op = UnaryOp.Not; operand = 0; result = 0 }
+
+abbrev pub binary_past : OperatorSignature
+binary_past = record { op = BinaryOp.Add; left = 0; right = 0; result = 0 }
+
+-- the code's rows are the definition's, by computation
+abbrev pub unary_row : ℕ → UnaryRow
+unary_row i = get_or UNARY_ROWS i (RowUnaryOp.Not, 0, 0)
+
+abbrev pub binary_row : ℕ → BinaryRow
+binary_row i = get_or BINARY_ROWS i (RowBinaryOp.Add, 0, 0, 0)
+
+unary_row_is : (i : ℕ) → unary_signature_of (unary_row i) ≡ get_or unary_op_signatures i unary_past
+unfolding unary_op_signatures
+unary_row_is i = sym (get_or-map unary_signature_of UNARY_ROWS i (RowUnaryOp.Not, 0, 0))
+
+binary_row_is : (i : ℕ) → binary_signature_of (binary_row i) ≡ get_or binary_op_signatures i binary_past
+unfolding binary_op_signatures
+binary_row_is i = sym (get_or-map binary_signature_of BINARY_ROWS i (RowBinaryOp.Add, 0, 0, 0))
 
 -- ------------------------------------------------------------------ any rows
 
@@ -79,10 +121,7 @@ module _ (table : Table) (op : UnaryOp) (operand : ℕ) where
   abbrev unary_scan : List UnaryOpSignature → ℕ
   unary_scan rows = unary_result table rows op operand
 
-  abbrev unary_test : UnaryOpSignature → Bool
-  unary_test row = eqb (unary_number row.op) (unary_number op) && are_types_compatible table operand row.operand
-
-  unary_step : (row : UnaryOpSignature) (rows : List UnaryOpSignature) → unary_scan (row ∷ rows) ≡ (if unary_test row then row.result else unary_scan rows)
+  unary_step : (row : UnaryOpSignature) (rows : List UnaryOpSignature) → unary_scan (row ∷ rows) ≡ (if unary_row_fits table op operand row then row.result else unary_scan rows)
   unfolding unary_result
   unary_step row rows = refl
 
@@ -91,30 +130,23 @@ module _ (table : Table) (op : UnaryOp) (operand : ℕ) where
   unary_none = refl
 
   module _ (i : ℕ) (begun : unary_scan unary_op_signatures ≡ unary_scan (drop i unary_op_signatures)) where
-    module _
-        (below : i < 3)
-        (number : ℕ)
-        (row : UnaryRow)
-        (b : Bool)
-        (is_op : number ≡ unary_number op)
-        (is_row : row ≡ unary_row_at i)
-        (tested : b ≡ (eqb row.0 number && are_types_compatible table operand row.1))
+    module _ (below : i < 3) (b : Bool) (tested : b ≡ unary_row_fits table op operand (unary_signature_of (unary_row i)))
       where
-        unary_tested : b ≡ unary_test (get_or unary_op_signatures i unary_past)
-        unary_tested = tested ∙ ap₂ (λ (r : UnaryRow) n. eqb r.0 n && are_types_compatible table operand r.1) is_row is_op
+        unary_tested : b ≡ unary_row_fits table op operand (get_or unary_op_signatures i unary_past)
+        unary_tested = tested ∙ ap (unary_row_fits table op operand) (unary_row_is i)
 
-        pub unary_here : b ≡ true → row.2 ≡ unary_result table unary_op_signatures op operand
+        pub unary_here : b ≡ true → (unary_row i).2 ≡ unary_result table unary_op_signatures op operand
         unary_here e =
-            ap (λ (r : UnaryRow). r.2) is_row
-            ∙ scan_here unary_scan unary_test (λ r. r.result) error unary_past unary_step unary_none unary_op_signatures i begun (omega (arith, three_rows)) b unary_tested e
+            ap (λ (r : UnaryOpSignature). r.result) (unary_row_is i)
+            ∙ scan_here unary_scan (unary_row_fits table op operand) (λ r. r.result) error unary_past unary_step unary_none unary_op_signatures i begun (omega (arith, three_rows)) b unary_tested e
 
         pub unary_there : b ≡ false → unary_result table unary_op_signatures op operand ≡ unary_result table (drop (i + 1) unary_op_signatures) op operand
         unary_there e =
-            scan_there unary_scan unary_test (λ r. r.result) error unary_past unary_step unary_none unary_op_signatures i begun (omega (arith, three_rows)) b unary_tested e
+            scan_there unary_scan (unary_row_fits table op operand) (λ r. r.result) error unary_past unary_step unary_none unary_op_signatures i begun (omega (arith, three_rows)) b unary_tested e
 
     pub unary_end : 3 ≤ i → 4 ≡ unary_result table unary_op_signatures op operand
     unary_end ended =
-        scan_end unary_scan unary_test (λ r. r.result) error unary_past unary_step unary_none unary_op_signatures i begun (omega (arith, three_rows))
+        scan_end unary_scan (unary_row_fits table op operand) (λ r. r.result) error unary_past unary_step unary_none unary_op_signatures i begun (omega (arith, three_rows))
 
 -- ------------------------------------------------------------------ two operands
 
@@ -126,12 +158,7 @@ module _ (table : Table) (op : BinaryOp) (left right : ℕ) where
   abbrev binary_scan : List OperatorSignature → ℕ
   binary_scan rows = binary_result table rows op left right
 
-  abbrev binary_test : OperatorSignature → Bool
-  binary_test row =
-      eqb (binary_number row.op) (binary_number op)
-      && (are_types_compatible table left row.left && are_types_compatible table right row.right)
-
-  binary_step : (row : OperatorSignature) (rows : List OperatorSignature) → binary_scan (row ∷ rows) ≡ (if binary_test row then row.result else binary_scan rows)
+  binary_step : (row : OperatorSignature) (rows : List OperatorSignature) → binary_scan (row ∷ rows) ≡ (if binary_row_fits table op left right row then row.result else binary_scan rows)
   unfolding binary_result
   binary_step row rows = refl
 
@@ -140,28 +167,20 @@ module _ (table : Table) (op : BinaryOp) (left right : ℕ) where
   binary_none = refl
 
   module _ (i : ℕ) (begun : binary_scan binary_op_signatures ≡ binary_scan (drop i binary_op_signatures)) where
-    module _
-        (below : i < 24)
-        (number : ℕ)
-        (row : BinaryRow)
-        (b : Bool)
-        (is_op : number ≡ binary_number op)
-        (is_row : row ≡ binary_row_at i)
-        (tested : b ≡ (eqb row.0 number && (are_types_compatible table left row.1 && are_types_compatible table right row.2)))
+    module _ (below : i < 24) (b : Bool) (tested : b ≡ binary_row_fits table op left right (binary_signature_of (binary_row i)))
       where
-        binary_tested : b ≡ binary_test (get_or binary_op_signatures i binary_past)
-        binary_tested =
-            tested ∙ ap₂ (λ (r : BinaryRow) n. eqb r.0 n && (are_types_compatible table left r.1 && are_types_compatible table right r.2)) is_row is_op
+        binary_tested : b ≡ binary_row_fits table op left right (get_or binary_op_signatures i binary_past)
+        binary_tested = tested ∙ ap (binary_row_fits table op left right) (binary_row_is i)
 
-        pub binary_here : b ≡ true → row.3 ≡ binary_result table binary_op_signatures op left right
+        pub binary_here : b ≡ true → (binary_row i).3 ≡ binary_result table binary_op_signatures op left right
         binary_here e =
-            ap (λ (r : BinaryRow). r.3) is_row
-            ∙ scan_here binary_scan binary_test (λ r. r.result) error binary_past binary_step binary_none binary_op_signatures i begun (omega (arith, all_rows)) b binary_tested e
+            ap (λ (r : OperatorSignature). r.result) (binary_row_is i)
+            ∙ scan_here binary_scan (binary_row_fits table op left right) (λ r. r.result) error binary_past binary_step binary_none binary_op_signatures i begun (omega (arith, all_rows)) b binary_tested e
 
         pub binary_there : b ≡ false → binary_result table binary_op_signatures op left right ≡ binary_result table (drop (i + 1) binary_op_signatures) op left right
         binary_there e =
-            scan_there binary_scan binary_test (λ r. r.result) error binary_past binary_step binary_none binary_op_signatures i begun (omega (arith, all_rows)) b binary_tested e
+            scan_there binary_scan (binary_row_fits table op left right) (λ r. r.result) error binary_past binary_step binary_none binary_op_signatures i begun (omega (arith, all_rows)) b binary_tested e
 
     pub binary_end : 24 ≤ i → 4 ≡ binary_result table binary_op_signatures op left right
     binary_end ended =
-        scan_end binary_scan binary_test (λ r. r.result) error binary_past binary_step binary_none binary_op_signatures i begun (omega (arith, all_rows))
+        scan_end binary_scan (binary_row_fits table op left right) (λ r. r.result) error binary_past binary_step binary_none binary_op_signatures i begun (omega (arith, all_rows))

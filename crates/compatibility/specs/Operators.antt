@@ -1,26 +1,24 @@
--- The rows of the operators in the numbers of the code. Definitions only; assumes nothing.
-use Rattle.std.specs.Prelude.{ℕ, get_or}
+-- The rows of the operators as the code has them. Definitions only; assumes nothing.
+use Rattle.std.specs.Prelude.{ℕ, Bool, ◌&&◌, eqb}
 use Rattle.model.specs.Records.{UnaryOp, BinaryOp}
-use Rattle.resolution.specs.Compatible.{UnaryOpSignature, OperatorSignature, unary_number, binary_number, unary_op_signatures, binary_op_signatures}
+use Rattle.records.specs.Meaning.{unary_op_of, binary_op_of}
+use Rattle.resolution.specs.Types.{Table}
+use Rattle.resolution.specs.Compatible.{UnaryOpSignature, OperatorSignature, unary_number, binary_number, are_types_compatible}
 use Rattle.compatibility.specs.declared.UnaryRow.{UnaryRow}
 use Rattle.compatibility.specs.declared.BinaryRow.{BinaryRow}
 
--- a row in the code's numbers
-abbrev pub unary_row_of : UnaryOpSignature → UnaryRow
-unary_row_of row = (unary_number row.op, row.operand, row.result)
+-- what a row of the code means
+abbrev pub unary_signature_of : UnaryRow → UnaryOpSignature
+unary_signature_of row = record { op = unary_op_of row.0; operand = row.1; result = row.2 }
 
-abbrev pub binary_row_of : OperatorSignature → BinaryRow
-binary_row_of row = (binary_number row.op, row.left, row.right, row.result)
+abbrev pub binary_signature_of : BinaryRow → OperatorSignature
+binary_signature_of row = record { op = binary_op_of row.0; left = row.1; right = row.2; result = row.3 }
 
--- the rows by number; past the end, one that serves for none
-abbrev pub unary_past : UnaryOpSignature
-unary_past = record { op = UnaryOp.Not; operand = 0; result = 0 }
+-- the definition's test of a row
+abbrev pub unary_row_fits : Table → UnaryOp → ℕ → UnaryOpSignature → Bool
+unary_row_fits table op operand row = eqb (unary_number row.op) (unary_number op) && are_types_compatible table operand row.operand
 
-abbrev pub binary_past : OperatorSignature
-binary_past = record { op = BinaryOp.Add; left = 0; right = 0; result = 0 }
-
-abbrev pub unary_row_at : ℕ → UnaryRow
-unary_row_at i = unary_row_of (get_or unary_op_signatures i unary_past)
-
-abbrev pub binary_row_at : ℕ → BinaryRow
-binary_row_at i = binary_row_of (get_or binary_op_signatures i binary_past)
+abbrev pub binary_row_fits : Table → BinaryOp → ℕ → ℕ → OperatorSignature → Bool
+binary_row_fits table op left right row =
+    eqb (binary_number row.op) (binary_number op)
+    && (are_types_compatible table left row.left && are_types_compatible table right row.right)

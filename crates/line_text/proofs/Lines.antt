@@ -1,6 +1,6 @@
 -- Lines written into a lent buffer: a text between the lead fields and the LF, and what stands at the start of the bytes. Assumes nothing.
 use Prim.Native.Nat.{ℕ, ◌+◌, ◌-◌, ◌≤◌, ◌<◌, zero-le}
-use mathlib.Core.Path.{◌≡◌, sym, ap, ap₂, ◌∙◌}
+use mathlib.Core.Path.{◌≡◌, subst, sym, ap, ap₂, ◌∙◌}
 use mathlib.Core.List.{◌++◌, append_assoc}
 use native.Mathlib.Nat.{zero-add, lt_trans}
 use native.Mathlib.Omega.{arith}
@@ -9,14 +9,16 @@ use mathlib.Core.Bool.{Bool, true, false}
 use lib.Dec.{lit<, leb}
 use lib.ListN.{length, take, drop, length-append, length-take, take-append-drop}
 use lib.Seq.{length-take-le, drop_at, drop-append-le, drop-drop}
-use Rattle.std.specs.Prelude.{if◌then◌else◌}
+use Rattle.std.specs.Prelude.{if◌then◌else◌, Result, Ok, Err, IsErrAnd}
 use Rattle.model.specs.Common.{Text, bytes}
 use Rattle.resolution.specs.Answer.{decimal, Verdict, text_verdict, verdict_fields, asked_lead, Line, line_text}
 use Rattle.type_text.specs.Text.{put_at, Wrote}
 use Rattle.type_text.proofs.Decimals.{decimal_within}
 use Rattle.type_text.proofs.Writing.{wrote_then}
 use Rattle.type_text.proofs.Laws.{Stands}
-use Rattle.line_text.specs.Lines.{put_first, LinePut, line_with}
+use Rattle.type_text.specs.declared.TextError.{TextError}
+use Rattle.line_text.specs.declared.LineError.{LineError}
+use Rattle.line_text.specs.Lines.{put_first, line_error_of, LinePut, TriedIs, line_with}
 
 -- a number of 32 bits has at most ten digits
 pub ten_digits : (n : ℕ) → n < 4294967296 → length (decimal n) ≤ 10
@@ -108,3 +110,9 @@ pub typed_length : (lead text : Text) → length (line_with lead (Verdict.typed 
 unfolding verdict_fields
 typed_length lead text =
     omega (arith, length-append lead (bytes "type\t" ++ (text ++ bytes "\n")), length-append (bytes "type\t") (text ++ bytes "\n"), length-append text (bytes "\n"))
+
+-- what a `?` hands on of a text that is not written
+pub handed_on : (lead : Text) (v : Verdict) (out out' : Text) (cause : TextError) (r : Result ℕ LineError) → IsErrAnd r (λ e. e ≡ line_error_of cause)
+    → TriedIs lead v out out' (Err (line_error_of cause)) → TriedIs lead v out out' r
+handed_on lead v out out' cause (Ok n) gives tried = absurd gives
+handed_on lead v out out' cause (Err e) gives tried = subst (λ x. TriedIs lead v out out' (Err x)) (sym gives) tried

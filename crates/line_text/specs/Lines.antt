@@ -1,11 +1,13 @@
 -- What the writers of lines promise: which bytes stand at the start of the lent ones, and that a line without room leaves them. Definitions only; assumes
 -- nothing.
-use Rattle.std.specs.Prelude.{ℕ, ◌≤◌, ◌<◌, ◌≡◌, ◌++◌, length, drop}
+use Rattle.std.specs.Prelude.{ℕ, ◌≤◌, ◌<◌, ◌≡◌, ◌++◌, length, drop, Option, None, Some, Result, Ok, Err}
+use Rattle.refusals.specs.declared.Refusal.{Refusal}
+use Rattle.refusals.specs.Numbers.{refusal_number}
 use Rattle.model.specs.Common.{Text}
 use Rattle.resolution.specs.Answer.{Verdict, verdict_fields}
 use Rattle.type_text.specs.Text.{Wrote}
-use Rattle.line_text.specs.declared.Tried.{Tried}
-use Rattle.line_text.specs.declared.Written.{Written}
+use Rattle.type_text.specs.declared.TextError.{TextError}
+use Rattle.line_text.specs.declared.LineError.{LineError}
 
 -- the text at the start of the bytes; those behind it stay
 abbrev pub put_first : Text → Text → Text
@@ -45,13 +47,18 @@ pub record RefusedWith (v : Verdict) (number : ℕ) (out out' : Text) : Type 0 w
   pub is : v ≡ Verdict.refused number
   pub same : out' ≡ out
 
+-- a line whose text is not written
+abbrev pub line_error_of : TextError → LineError
+line_error_of TextError.TooLong = LineError.Refused Refusal.LongText
+line_error_of TextError.NoRoom = LineError.NoRoom
+
 -- what became of a verdict: only a line that is no refusal is written, and only where there is room for it
-abbrev pub TriedIs : Text → Verdict → Text → Text → Tried → Type 0
-TriedIs lead v out out' (Tried.Line n) = AnswerPut lead v out out' n
-TriedIs lead v out out' (Tried.Refused number) = RefusedWith v number out out'
-TriedIs lead v out out' Tried.NoRoom = NotPut (line_with lead v) out out'
+abbrev pub TriedIs : Text → Verdict → Text → Text → Result ℕ LineError → Type 0
+TriedIs lead v out out' (Ok n) = AnswerPut lead v out out' n
+TriedIs lead v out out' (Err (LineError.Refused refusal)) = RefusedWith v (refusal_number refusal) out out'
+TriedIs lead v out out' (Err LineError.NoRoom) = NotPut (line_with lead v) out out'
 
 -- what became of a line: it is written where there is room for it
-abbrev pub WrittenIs : Text → Text → Text → Written → Type 0
-WrittenIs line out out' (Written.Line n) = LinePut line out out' n
-WrittenIs line out out' Written.NoRoom = NotPut line out out'
+abbrev pub WrittenIs : Text → Text → Text → Option ℕ → Type 0
+WrittenIs line out out' (Some n) = LinePut line out out' n
+WrittenIs line out out' None = NotPut line out out'

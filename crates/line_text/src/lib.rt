@@ -1,31 +1,38 @@
 // The bytes of an answer line, written into a lent buffer: the lead fields, and behind them a type, a word or a refusal.
 #![tactic(auto)]
 
-ghost use Rattle.std.specs.Prelude.{◌≤◌, ◌++◌, length};
+ghost use Rattle.std.specs.Prelude.{◌≡◌, ◌≤◌, ◌++◌, length};
 ghost use Rattle.model.specs.Common.{bytes};
 ghost use Rattle.resolution.specs.Answer.{decimal, type_text, Verdict, text_verdict, asked_lead};
 ghost use Rattle.resolution.specs.TableOk.{TableOk};
 ghost use Rattle.resolution.specs.TypeResolution.{none_word};
 ghost use Rattle.type_table.specs.Layout.{table_of, Sound};
+ghost use Rattle.refusals.specs.Numbers.{refusal_number};
 ghost use Rattle.views.specs.Asking.{asked_of};
-ghost use Rattle.line_text.specs.Lines.{LeadPut, TriedIs, WrittenIs, line_with};
+ghost use Rattle.line_text.specs.Lines.{line_error_of, LeadPut, TriedIs, WrittenIs, line_with};
 
-use type_text::TypeText;
+use refusals::Refusal;
+use type_text::TextError;
 use views::Asked;
 
-// What became of what is asked: its line is written, it is refused, or its line has no room.
-#[derive(Clone, Copy)]
-pub enum Tried {
-    Line(usize),
-    Refused(u32),
+// Why the line of a type is not written.
+#[derive(Clone, Copy, PartialEq, Eq)]
+pub enum LineError {
+    // What is asked is refused.
+    Refused(Refusal),
+    // The line has no room.
     NoRoom,
 }
 
-// What became of a line: it is written, with its length, or it has no room.
-#[derive(Clone, Copy)]
-pub enum Written {
-    Line(usize),
-    NoRoom,
+impl From<TextError> for LineError {
+    ghost from_gives = { λ cause error. error ≡ line_error_of cause };
+
+    fn from(cause: TextError) -> LineError {
+        match cause {
+            TextError::TooLong => LineError::Refused(Refusal::LongText),
+            TextError::NoRoom => LineError::NoRoom,
+        }
+    }
 }
 
 // ------------------------------------------------------------------ lead fields
@@ -59,9 +66,15 @@ fn put_lead(asked: Asked, out: &mut [u8]) -> usize
 // ------------------------------------------------------------------ lines
 
 // Writes the line of a type. The text goes straight behind the four lead fields, into the rest of the buffer lent from its middle; it is
-// measured before anything is written, and the lead fields and the LF come once it stands, so that a line without room and refusal 10
+// measured before anything is written, and the lead fields and the LF come once it stands, so that a line without room and a refusal
 // leave the buffer as it is. It asks for a table as interning leaves it, as the text does.
-pub fn write_typed(file: &[u8], types: &[u32], t: u32, asked: Asked, out: &mut [u8]) -> Tried
+pub fn write_typed(
+    file: &[u8],
+    types: &[u32],
+    t: u32,
+    asked: Asked,
+    out: &mut [u8],
+) -> Result<usize, LineError>
     requires sound { Sound file.now types.now }
     requires table_ok { TableOk (table_of file.now types.now) }
     ensures { TriedIs (asked_lead (asked_of asked)) (text_verdict (type_text (table_of file.now types.now) t)) out.old out.new result }
@@ -71,22 +84,17 @@ pub fn write_typed(file: &[u8], types: &[u32], t: u32, asked: Asked, out: &mut [
     let at = type_text::put(&mut lead, named, b"type\t");
     let len = out.len();
     if len <= at {
-        return Tried::NoRoom;
+        return Err(LineError::NoRoom);
     }
     let end = len - 1;
-    match type_text::write_text(file, types, t, &mut out[at..end]) {
-        TypeText::TooLong => Tried::Refused(10),
-        TypeText::NoRoom => Tried::NoRoom,
-        TypeText::Written(n) => {
-            type_text::put(out, 0, &lead[..at]);
-            let last = type_text::put(out, at + n, b"\n");
-            Tried::Line(last)
-        }
-    }
+    let n = type_text::write_text(file, types, t, &mut out[at..end])?;
+    type_text::put(out, 0, &lead[..at]);
+    let last = type_text::put(out, at + n, b"\n");
+    Ok(last)
 }
 
-// Writes the line of a few bytes behind the lead fields.
-fn write_fields(asked: Asked, fields: &[u8], out: &mut [u8]) -> Written
+// Writes the line of a few bytes behind the lead fields, and returns its length; none where it has no room.
+fn write_fields(asked: Asked, fields: &[u8], out: &mut [u8]) -> Option<usize>
     requires { length fields.now ≤ 20 }
     ensures { WrittenIs (asked_lead (asked_of asked) ++ (fields.now ++ bytes "\n")) out.old out.new result }
 {
@@ -95,24 +103,24 @@ fn write_fields(asked: Asked, fields: &[u8], out: &mut [u8]) -> Written
     let behind = type_text::put(&mut line, named, fields);
     let end = type_text::put(&mut line, behind, b"\n");
     if out.len() < end {
-        return Written::NoRoom;
+        return None;
     }
     type_text::put(out, 0, &line[..end]);
-    Written::Line(end)
+    Some(end)
 }
 
 // Writes the line of a refusal.
-pub fn write_refused(asked: Asked, number: u32, out: &mut [u8]) -> Written
-    ensures { WrittenIs (line_with (asked_lead (asked_of asked)) (Verdict.refused number)) out.old out.new result }
+pub fn write_refused(asked: Asked, refusal: Refusal, out: &mut [u8]) -> Option<usize>
+    ensures { WrittenIs (line_with (asked_lead (asked_of asked)) (Verdict.refused (refusal_number refusal))) out.old out.new result }
 {
     let mut fields = [0u8; 20];
     let word = type_text::put(&mut fields, 0, b"refused\t");
-    let end = type_text::put_decimal(&mut fields, word, number as u64);
+    let end = type_text::put_decimal(&mut fields, word, refusal.number() as u64);
     write_fields(asked, &fields[..end], out)
 }
 
 // Writes the line `none`.
-pub fn write_none(asked: Asked, out: &mut [u8]) -> Written
+pub fn write_none(asked: Asked, out: &mut [u8]) -> Option<usize>
     ensures { WrittenIs (line_with (asked_lead (asked_of asked)) (Verdict.worded none_word)) out.old out.new result }
 {
     write_fields(asked, b"none", out)

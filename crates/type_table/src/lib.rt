@@ -8,7 +8,7 @@ ghost use Rattle.records.specs.Layout.{name_by};
 ghost use Rattle.records.specs.Meaning.{name_of, numbers_of, names_with_types_of, suffix_of};
 ghost use Rattle.resolution.specs.TypeData.{TypeData as Data};
 ghost use Rattle.resolution.specs.Types.{eq_names, data_of, field_type, find_type, as_pointer, as_struct};
-ghost use Rattle.resolution.specs.TableOk.{row_types};
+ghost use Rattle.resolution.specs.TableOk.{row_types, TableOk};
 ghost use Rattle.resolution.specs.Views.{typed_fields, suffix_type};
 ghost use Rattle.type_table.specs.Layout.{part, head_at, items_at, names_at, type_count, item_count};
 ghost use Rattle.type_table.specs.Layout.{types_of, data_from, AllBelow, table_of, Sound, Canonical};
@@ -102,6 +102,16 @@ pub enum TypeData {
     Function(u32, u32, TypeList, u32),
 }
 
+// A table as interning leaves it, with the file that its names are of: read together where one goes down by the types' numbers, an element's below its holder's.
+#[derive(Clone, Copy)]
+pub struct Types<'a> {
+    pub file: &'a [u8],
+    pub words: &'a [u32],
+    pub ghost sound: { Sound file.now words.now },
+    // Truncated, since nothing shows that the fact has one proof only.
+    pub ghost table_ok: { ∥ TableOk (table_of file.now words.now) ∥₁ },
+}
+
 // ------------------------------------------------------------------ the words of a row
 
 // So many words from a place on, as far as there are any.
@@ -120,7 +130,7 @@ fn words_from(words: &[u32], from: usize, count: usize) -> &[u32]
 }
 
 // The fixed words of the row of a type.
-pub fn head_of(types: &[u32], t: u32) -> Head
+fn head_of(types: &[u32], t: u32) -> Head
     ensures { result ≡ head_at types.now t }
 {
     let at = 8 * (t as usize);
@@ -141,7 +151,7 @@ pub fn head_of(types: &[u32], t: u32) -> Head
 }
 
 // The list of the row of a type.
-pub fn items_of(types: &[u32], t: u32) -> &[u32]
+fn items_of(types: &[u32], t: u32) -> &[u32]
     ensures { result.now ≡ items_at types.now t }
 {
     let at = 8 * (t as usize);
@@ -294,12 +304,18 @@ pub fn numeric(types: &[u32], t: u32) -> Option<u32>
 
 // ------------------------------------------------------------------ reading lists
 
+// The types of a list.
+pub fn types_in(types: &[u32], list: TypeList) -> &[u32]
+    ensures { result.now ≡ types_of types.now list }
+{
+    words_from(types, ITEMS + (list.first as usize), list.count as usize)
+}
+
 // An element of a tuple, or a parameter of a function, by its place in the list.
 pub fn item(types: &[u32], list: TypeList, i: u32) -> Option<u32>
     ensures { result ≡ slice_get (types_of types.now list) i }
 {
-    let listed = words_from(types, ITEMS + (list.first as usize), list.count as usize);
-    listed.get(i as usize).copied()
+    types_in(types, list).get(i as usize).copied()
 }
 
 // The type of the first field of the name.
@@ -307,7 +323,7 @@ fn field_type(file: &[u8], types: &[u32], list: TypeList, name: Name) -> Option<
     ensures { result ≡ field_type (fields_in file.now types.now list) (name_of file.now name) }
 {
     let names = words_from(types, NAMES + (list.first as usize), list.count as usize);
-    let items = words_from(types, ITEMS + (list.first as usize), list.count as usize);
+    let items = types_in(types, list);
     let count = names.len();
     for i in 0..count {
         let x = names[i];
@@ -406,11 +422,7 @@ pub fn element_contexts(types: &[u32], context: Option<u32>, count: u32) -> Type
     let Some(elements) = tuple_of(types, t) else {
         return NO_TYPES;
     };
-    let held = words_from(
-        types,
-        ITEMS + (elements.first as usize),
-        elements.count as usize,
-    );
+    let held = types_in(types, elements);
     if held.len() == (count as usize) {
         elements
     } else {

@@ -10,11 +10,11 @@ use borrow.Author.Tests.{le-leb, lt-leb, leb-true, leb-false}
 use lib.Dec.{leb}
 use lib.ListN.{length, take, drop, length-append, length-drop}
 use lib.Seq.{take_at, drop_at}
-use Rattle.std.specs.Prelude.{if◌then◌else◌}
+use Rattle.std.specs.Prelude.{if◌then◌else◌, Result, Ok, Err}
 use Rattle.model.specs.Refusals.{refusal_text}
 use Rattle.resolution.specs.Answer.{Verdict, max_text, text_verdict}
-use Rattle.type_text.specs.declared.TypeText.{TypeText}
-use Rattle.type_text.specs.declared.TypeText.TheVariants.{Written, TooLong, NoRoom}
+use Rattle.type_text.specs.declared.TextError.{TextError}
+use Rattle.type_text.specs.declared.TextError.TheVariants.{TooLong, NoRoom}
 use Rattle.type_text.specs.Text.{put_at, text_answer, text_bytes, Wrote, WritesText}
 
 -- ------------------------------------------------------------------ the measured length
@@ -33,29 +33,29 @@ unfolding put_at
 put_start out text = ap (λ n. text ++ drop n out) (zero-add (length text))
 
 module _ (text out : List ℕ) where
-  pub text_long : max_text < length text → WritesText text out out TooLong
+  pub text_long : max_text < length text → WritesText text out out (Err TooLong)
   unfolding text_answer text_bytes
   text_long long =
       record {
-        answer = sym (ap (λ b. if b then (if leb (length text) (length out) then Written (length text) else NoRoom) else TooLong) (lt-leb (length text) max_text long));
+        answer = sym (ap (λ b. if b then (if leb (length text) (length out) then Ok (length text) else Err NoRoom) else Err TooLong) (lt-leb (length text) max_text long));
         bytes = refl;
       }
 
-  pub text_no_room : length text ≤ max_text → length out < length text → WritesText text out out NoRoom
+  pub text_no_room : length text ≤ max_text → length out < length text → WritesText text out out (Err NoRoom)
   unfolding text_answer text_bytes
   text_no_room small short =
       record {
-        answer = sym (ap₂ (λ a b. if a then (if b then Written (length text) else NoRoom) else TooLong) (le-leb (length text) max_text small) (lt-leb (length text) (length out) short));
+        answer = sym (ap₂ (λ a b. if a then (if b then Ok (length text) else Err NoRoom) else Err TooLong) (le-leb (length text) max_text small) (lt-leb (length text) (length out) short));
         bytes = refl;
       }
 
-  pub text_written : (out' : List ℕ) (r : ℕ) → length text ≤ max_text → length text ≤ length out → Wrote text 0 out out' r → WritesText text out out' (Written r)
+  pub text_written : (out' : List ℕ) (r : ℕ) → length text ≤ max_text → length text ≤ length out → Wrote text 0 out out' r → WritesText text out out' (Ok r)
   unfolding text_answer text_bytes
   text_written out' r small fits wrote =
       record {
         answer =
-            ap Written (wrote.next ∙ zero-add (length text))
-            ∙ sym (ap₂ (λ a b. if a then (if b then Written (length text) else NoRoom) else TooLong) (le-leb (length text) max_text small) (le-leb (length text) (length out) fits));
+            ap Ok (wrote.next ∙ zero-add (length text))
+            ∙ sym (ap₂ (λ a b. if a then (if b then Ok (length text) else Err NoRoom) else Err TooLong) (le-leb (length text) max_text small) (le-leb (length text) (length out) fits));
         bytes = wrote.bytes ∙ put_start out text;
       }
 
@@ -70,13 +70,13 @@ pub record Stands (text out out' : List ℕ) (n : ℕ) : Type 0 where
   pub rest_kept : drop n out' ≡ drop n out
   pub same_length : length out' ≡ length out
 
-abbrev Said : List ℕ → List ℕ → List ℕ → TypeText → Type 0
-Said text out out' (Written n) = Stands text out out' n
-Said text out out' TooLong = (max_text < length text) × (out' ≡ out)
-Said text out out' NoRoom = (length text ≤ max_text) × (length out < length text) × (out' ≡ out)
+abbrev Said : List ℕ → List ℕ → List ℕ → Result ℕ TextError → Type 0
+Said text out out' (Ok n) = Stands text out out' n
+Said text out out' (Err TooLong) = (max_text < length text) × (out' ≡ out)
+Said text out out' (Err NoRoom) = (length text ≤ max_text) × (length out < length text) × (out' ≡ out)
 
 said : (text out out' : List ℕ) (a b : Bool) → leb (length text) max_text ≡ a → leb (length text) (length out) ≡ b
-    → out' ≡ text_bytes (if a then (if b then Written (length text) else NoRoom) else TooLong) text out → Said text out out' (if a then (if b then Written (length text) else NoRoom) else TooLong)
+    → out' ≡ text_bytes (if a then (if b then Ok (length text) else Err NoRoom) else Err TooLong) text out → Said text out out' (if a then (if b then Ok (length text) else Err NoRoom) else Err TooLong)
 unfolding text_bytes
 said text out out' true true small fits e =
     record {
@@ -92,8 +92,8 @@ said text out out' true true small fits e =
 said text out out' true false small short e = (leb-true _ _ small, leb-false _ _ short, e)
 said text out out' false b long short e = (leb-false _ _ long, e)
 
-module _ {text out out' : List ℕ} {r : TypeText} (promised : WritesText text out out' r) where
-  all_said : (r' : TypeText) → r ≡ r' → Said text out out' r'
+module _ {text out out' : List ℕ} {r : Result ℕ TextError} (promised : WritesText text out out' r) where
+  all_said : (r' : Result ℕ TextError) → r ≡ r' → Said text out out' r'
   unfolding text_answer
   all_said r' same =
       subst (Said text out out') (sym promised.answer ∙ same)
@@ -101,24 +101,24 @@ module _ {text out out' : List ℕ} {r : TypeText} (promised : WritesText text o
       (promised.bytes ∙ ap (λ x. text_bytes x text out) promised.answer))
 
   -- the text is written, of exactly that length
-  pub written : (n : ℕ) → r ≡ Written n → Stands text out out' n
-  written n same = all_said (Written n) same
+  pub written : (n : ℕ) → r ≡ Ok n → Stands text out out' n
+  written n same = all_said (Ok n) same
 
   -- what was measured is what is written
-  pub measured_written : (m n : ℕ) → m ≡ min 4097 (length text) → r ≡ Written n → m ≡ n
+  pub measured_written : (m n : ℕ) → m ≡ min 4097 (length text) → r ≡ Ok n → m ≡ n
   measured_written m n e same = omega (arith, (written n same).exact, (written n same).small)
 
   -- a text is said to be over 4,096 bytes where it is, and nowhere else; nothing is written then
-  pub too_long : r ≡ TooLong → (max_text < length text) × (out' ≡ out)
-  too_long same = all_said TooLong same
+  pub too_long : r ≡ Err TooLong → (max_text < length text) × (out' ≡ out)
+  too_long same = all_said (Err TooLong) same
 
-  pub over : max_text < length text → r ≡ TooLong
+  pub over : max_text < length text → r ≡ Err TooLong
   unfolding text_answer
   over long = promised.answer ∙ sym (text_long text out long).answer
 
   -- only the buffer is too short; nothing is written
-  pub no_room : r ≡ NoRoom → (length text ≤ max_text) × (length out < length text) × (out' ≡ out)
-  no_room same = all_said NoRoom same
+  pub no_room : r ≡ Err NoRoom → (length text ≤ max_text) × (length out < length text) × (out' ≡ out)
+  no_room same = all_said (Err NoRoom) same
 
 -- ------------------------------------------------------------------ the definition's verdict
 

@@ -1,30 +1,32 @@
 -- The text of a type by its row, and texts with commas between them. Assumes nothing.
 use Prim.Native.Nat.{ℕ, zero, ◌+◌, ◌-◌, ◌≤◌, ◌<◌, zero-le, suc-le-suc}
 use mathlib.Core.Path.{◌≡◌, refl, sym, ap, subst, ◌∙◌}
-use mathlib.Core.Bool.{Bool, true, false}
+use mathlib.Core.Logic.{∥∥₁_elim}
+use native.Mathlib.Nat.{ℕ_set}
+use mathlib.Core.List.{is_set as List-set}
 use mathlib.Core.List.{List, [], ◌∷◌, ◌++◌, append_assoc, append-nil}
 use native.Mathlib.Nat.{not-suc-le-zero, le_refl}
 use native.Mathlib.Numerals.{add-one}
 use native.Mathlib.Omega.{arith}
-use borrow.Author.Tests.{leb-true, leb-false}
-use lib.Dec.{leb}
 use lib.ListN.{length, get_or, take, drop, length-append, length-drop, take-append-drop}
 use lib.Seq.{take-suc, take_all, length-take-le, get_or-drop}
 use Rattle.model.specs.Common.{bytes}
 use Rattle.resolution.specs.TypeData.{TypeData}
-use Rattle.resolution.specs.Types.{kind_number, data_of}
+use Rattle.resolution.specs.Types.{data_of}
 use Rattle.resolution.specs.Answer.{decimal, comma_texts, row_text, type_text}
 use Rattle.resolution.specs.TableOk.{row_types, TableOk}
 use Rattle.resolution.proofs.Steps.{type_text_step}
 use Rattle.type_table.specs.declared.TypeData.{TypeData as Row}
 use Rattle.type_table.specs.declared.TypeData.TheVariants.{Felt, «Bool» as BoolType, U32, Unknown, Error, Tuple, Pointer, FixedArray, Struct, Function}
 use Rattle.type_table.specs.declared.TypeList.{TypeList}
-use Rattle.type_table.specs.Layout.{type_count, types_of, items_at, row_at, table_of, items_of, AllBelow, Sound}
+use Rattle.type_table.specs.Layout.{types_of, table_of, AllBelow, Sound}
 use Rattle.type_table.specs.Meaning.{data_is}
 use Rattle.type_table.specs.Promises.{DataRead}
-use Rattle.type_table.proofs.Rows.{data_below, data_past}
 use Rattle.type_table.proofs.Laws.{lower}
 use Rattle.type_text.specs.Text.{comma_rest, tuple_text, pointer_text, array_text, definition_text}
+
+list_set : IsSet (List ℕ)
+list_set = List-set ℕ_set
 
 -- ------------------------------------------------------------------ the row that the code has read
 
@@ -34,9 +36,9 @@ module _ (file w : List ℕ) (t : ℕ) (read : Row) (promised : DataRead w t rea
   row_is row told = sym (ap (data_is file w) told) ∙ promised.same file
 
   -- the text of a type by the kind of its row
-  module _ (ok : TableOk (table_of file w)) where
+  module _ (held : ∥ TableOk (table_of file w) ∥₁) where
     text_is : (row : Row) → read ≡ row → row_text (type_text (table_of file w)) (data_is file w row) ≡ type_text (table_of file w) t
-    text_is row told = ap (row_text (type_text (table_of file w))) (row_is row told) ∙ sym (type_text_step ok t)
+    text_is row told = ∥∥₁_elim held (list_set _ _) (λ ok. ap (row_text (type_text (table_of file w))) (row_is row told) ∙ sym (type_text_step ok t))
 
     pub felt_is : read ≡ Felt → bytes "felt" ≡ type_text (table_of file w) t
     unfolding row_text
@@ -87,40 +89,24 @@ module _ (file w : List ℕ) (t : ℕ) (read : Row) (promised : DataRead w t rea
     unfolding row_types
     array_below u size told = inner_below (FixedArray u size) told zero (suc-le-suc zero-le)
 
--- the list of a tuple's row is the tuple's
-no_tuple : (ts : List ℕ) → TypeData.Tuple ts ≡ TypeData.Error → ⊥
-unfolding kind_number
-no_tuple ts e = let other : ◌≡◌ {A = ℕ} 5 4 = ap kind_number e in omega arith
-
-items_are : (file w : List ℕ) → Sound file w → (t : ℕ) (ts : List ℕ) → TypeData.Tuple ts ≡ data_of (table_of file w) t → items_at w t ≡ ts
-unfolding row_at items_of
-items_are file w sound t ts e = go (leb (type_count w) t) refl
-  where
-    go : (b : Bool) → leb (type_count w) t ≡ b → items_at w t ≡ ts
-    go true h = absurd (no_tuple ts (e ∙ data_past file w t (leb-true _ _ h)))
-    go false h = (sound.rows t (leb-false _ _ h)).canonical.same_items ∙ ap items_of (sym (e ∙ data_below file w t (leb-false _ _ h)))
-
+-- the list of a tuple
 module _
     (file w : List ℕ)
     (t : ℕ)
     (read : Row)
     (promised : DataRead w t read)
-    (sound : Sound file w)
     (list : TypeList)
     (told : read ≡ Tuple list)
     (l : List ℕ)
-    (listed : l ≡ items_at w t)
+    (listed : l ≡ types_of w list)
   where
-    list_is : types_of w list ≡ l
-    list_is = sym (listed ∙ items_are file w sound t (types_of w list) (row_is file w t read promised (Tuple list) told))
-
-    pub tuple_below : AllBelow t l
+    pub tuple_below : Sound file w → AllBelow t l
     unfolding row_types
-    tuple_below = subst (λ (x : List ℕ). AllBelow t x) list_is (inner_below file w t read promised sound (Tuple list) told)
+    tuple_below sound = subst (λ (x : List ℕ). AllBelow t x) (sym listed) (inner_below file w t read promised sound (Tuple list) told)
 
-    pub tuple_is : TableOk (table_of file w) → tuple_text (type_text (table_of file w)) l ≡ type_text (table_of file w) t
+    pub tuple_is : ∥ TableOk (table_of file w) ∥₁ → tuple_text (type_text (table_of file w)) l ≡ type_text (table_of file w) t
     unfolding row_text tuple_text
-    tuple_is ok = ap (tuple_text (type_text (table_of file w))) (sym list_is) ∙ text_is file w t read promised ok (Tuple list) told
+    tuple_is ok = ap (tuple_text (type_text (table_of file w))) listed ∙ text_is file w t read promised ok (Tuple list) told
 
 -- ------------------------------------------------------------------ commas
 

@@ -1,9 +1,11 @@
 -- Texts written one behind the other: what `Wrote` says of one, of two in a row and of the bytes around them. Assumes nothing.
-use Prim.Native.Nat.{ℕ, suc, ◌+◌, ◌≤◌, ◌<◌}
+use Prim.Native.Nat.{ℕ, suc, ◌+◌, ◌-◌, ◌≤◌, ◌<◌}
 use mathlib.Core.Path.{◌≡◌, refl, sym, ap, ap₂, subst, ◌∙◌}
 use mathlib.Core.List.{List, [], ◌∷◌, ◌++◌, append_assoc, append-nil}
 use native.Mathlib.Nat.{add-zero, add_assoc, le_refl, le_trans, le-add_right}
 use native.Mathlib.Numerals.{add-one}
+use native.Mathlib.Omega.{arith}
+use borrow.Rule.Slice.PartMut.{put_mid}
 use lib.ListN.{length, take, drop, set, length-append, take-append-drop}
 use lib.Seq.{take-length, take_at, drop_at, drop-drop, length-take-le, length-paste, paste, set_split, append_snoc}
 use Rattle.type_text.specs.Text.{put_at, Wrote}
@@ -14,6 +16,15 @@ pasted out text at = ap (λ l. take at out ++ l ++ drop (at + length text) out) 
 
 pub length_put : (out text : List ℕ) (at : ℕ) → at + length text ≤ length out → length (put_at out at text) ≡ length out
 length_put out text at room = ap length (sym (pasted out text at)) ∙ length-paste out at text (length text) room (le_refl (length text))
+
+-- a part of the bytes with a text in its place
+pub put_mid_is : (out text : List ℕ) (at : ℕ) → put_mid at (at + length text - at) out text ≡ put_at out at text
+unfolding put_at
+put_mid_is out text at =
+    let same : at + length text - at ≡ length text = omega arith in
+    ap (λ k. take at out ++ (text ++ drop k (drop at out))) same
+    ∙ ap (λ l. take at out ++ (text ++ l)) (drop-drop (length text) at out)
+    ∙ sym (append_assoc (take at out) text (drop (at + length text) out))
 
 put_none : (out : List ℕ) (at : ℕ) → put_at out at [] ≡ out
 unfolding put_at

@@ -1,10 +1,10 @@
 -- What is written of a type's text. Definitions only; assumes nothing.
 use Rattle.std.specs.Prelude.{ℕ, ◌+◌, ◌≤◌, ◌≡◌, List, [], ◌∷◌, ◌++◌, leb, length, take, drop}
-use Rattle.std.specs.Prelude.{if◌then◌else◌}
+use Rattle.std.specs.Prelude.{if◌then◌else◌, Result, Ok, Err}
 use Rattle.model.specs.Common.{bytes}
 use Rattle.resolution.specs.Answer.{decimal, comma_texts, max_text}
-use Rattle.type_text.specs.declared.TypeText.{TypeText}
-use Rattle.type_text.specs.declared.TypeText.TheVariants.{Written, TooLong, NoRoom}
+use Rattle.type_text.specs.declared.TextError.{TextError}
+use Rattle.type_text.specs.declared.TextError.TheVariants.{TooLong, NoRoom}
 
 -- the texts of the kinds, as in the definition's `row_text`
 unfoldable pub tuple_text : (ℕ → List ℕ) → List ℕ → List ℕ
@@ -39,15 +39,15 @@ pub record Wrote (text : List ℕ) (at : ℕ) (out out' : List ℕ) (r : ℕ) : 
   pub next : r ≡ at + length text
 
 -- 10: "a text over 4,096 bytes"
-unfoldable pub text_answer : List ℕ → ℕ → TypeText
-text_answer text room = if leb (length text) max_text then (if leb (length text) room then Written (length text) else NoRoom) else TooLong
+unfoldable pub text_answer : List ℕ → ℕ → Result ℕ TextError
+text_answer text room = if leb (length text) max_text then (if leb (length text) room then Ok (length text) else Err NoRoom) else Err TooLong
 
-unfoldable pub text_bytes : TypeText → List ℕ → List ℕ → List ℕ
-text_bytes (Written n) text out = text ++ drop (length text) out
-text_bytes TooLong text out = out
-text_bytes NoRoom text out = out
+unfoldable pub text_bytes : Result ℕ TextError → List ℕ → List ℕ → List ℕ
+text_bytes (Ok n) text out = text ++ drop (length text) out
+text_bytes (Err TooLong) text out = out
+text_bytes (Err NoRoom) text out = out
 
 -- the text at the buffer's start, the bytes behind it stay; a text over 4,096 bytes or over the buffer changes nothing
-pub record WritesText (text out out' : List ℕ) (r : TypeText) : Type 0 where
+pub record WritesText (text out out' : List ℕ) (r : Result ℕ TextError) : Type 0 where
   pub answer : r ≡ text_answer text (length out)
   pub bytes : out' ≡ text_bytes r text out

@@ -8,7 +8,7 @@ ghost use Rattle.type_table.specs.Layout.{table_of, AllBelow, Sound};
 ghost use Rattle.type_text.specs.Text.{Digits, Wrote, WritesText};
 ghost use Rattle.type_text.specs.Text.{comma_rest, tuple_text, pointer_text, array_text, definition_text};
 
-use type_table::TypeData;
+use type_table::{TypeData, Types};
 
 // The most bytes that a type's text may have.
 const MAX_TEXT: usize = 4096;
@@ -16,11 +16,12 @@ const MAX_TEXT: usize = 4096;
 // The length that stands for every one over the limit.
 const OVER: usize = 4097;
 
-// The text of a type written, with its length; or over 4,096 bytes; or longer than the buffer.
-#[derive(Clone, Copy)]
-pub enum TypeText {
-    Written(usize),
+// Why a type's text is not written.
+#[derive(Clone, Copy, PartialEq, Eq)]
+pub enum TextError {
+    // It has over 4,096 bytes.
     TooLong,
+    // It is longer than the buffer.
     NoRoom,
 }
 
@@ -34,12 +35,9 @@ pub fn put(out: &mut [u8], at: usize, text: &[u8]) -> usize
     requires { at + length text.now ≤ length out.old }
     ensures { Wrote text.now at out.old out.new result }
 {
-    let mut i = 0;
-    while i < text.len() {
-        out[at + i] = text[i];
-        i += 1;
-    }
-    at + i
+    let end = at + text.len();
+    out[at..end].copy_from_slice(text);
+    end
 }
 
 // How many decimal digits a number has.
@@ -83,34 +81,32 @@ fn put_definition(out: &mut [u8], at: usize, lead: &[u8], home: u32, definition:
 fn capped(n: usize) -> usize
     ensures { result ≡ min 4097 n }
 {
-    if n < OVER { n } else { OVER }
+    n.min(OVER)
 }
 
 // The length of a type's text added to what is used, up to 4,097: past 4,096 nothing more is looked at.
 #[cycle(measure_list_measure_type)]
-fn measure_type(file: &[u8], types: &[u32], t: u32, used: usize) -> usize
-    requires sound { Sound file.now types.now }
-    requires table_ok { TableOk (table_of file.now types.now) }
+fn measure_type(types: &Types, t: u32, used: usize) -> usize
     requires used_bound { used ≤ 4097 }
-    ensures { result ≡ min 4097 (used + length (type_text (table_of file.now types.now) t)) }
+    ensures { result ≡ min 4097 (used + length (type_text (table_of types.now.file.now types.now.words.now) t)) }
 {
     if MAX_TEXT < used {
         return OVER;
     }
-    match type_table::data(types, t) {
+    match type_table::data(types.words, t) {
         TypeData::Felt => capped(used + 4),
         TypeData::Bool => capped(used + 4),
         TypeData::U32 => capped(used + 3),
         TypeData::Unknown => capped(used + 7),
         TypeData::Error => capped(used + 5),
-        TypeData::Tuple(_) => {
-            let list = type_table::items_of(types, t);
-            measure_list(file, types, t, list, capped(used + 2))
+        TypeData::Tuple(elements) => {
+            let list = type_table::types_in(types.words, elements);
+            measure_list(types, t, list, capped(used + 2))
         }
-        TypeData::Pointer(element) => measure_type(file, types, element, capped(used + 5)),
+        TypeData::Pointer(element) => measure_type(types, element, capped(used + 5)),
         TypeData::FixedArray(element, size) => {
             let digits = decimal_length(size);
-            measure_type(file, types, element, capped(used + 3 + digits))
+            measure_type(types, element, capped(used + 3 + digits))
         }
         TypeData::Struct(home, definition, _) => {
             let first = decimal_length(home as u64);
@@ -127,58 +123,51 @@ fn measure_type(file: &[u8], types: &[u32], t: u32, used: usize) -> usize
 
 // The length of the texts of types below a type, with commas between them, added to what is used, up to 4,097.
 #[cycle(measure_list_measure_type)]
-fn measure_list(file: &[u8], types: &[u32], holder: u32, list: &[u32], used: usize) -> usize
-    requires sound { Sound file.now types.now }
-    requires table_ok { TableOk (table_of file.now types.now) }
+fn measure_list(types: &Types, holder: u32, list: &[u32], used: usize) -> usize
     requires used_bound { used ≤ 4097 }
     requires all_below { AllBelow holder list.now }
-    ensures { result ≡ min 4097 (used + length (comma_texts (type_text (table_of file.now types.now)) list.now)) }
+    ensures { result ≡ min 4097 (used + length (comma_texts (type_text (table_of types.now.file.now types.now.words.now)) list.now)) }
 {
-    if list.len() == 0 {
+    if list.is_empty() {
         return used;
     }
     let first = list[0];
-    let mut next = measure_type(file, types, first, used);
-    let mut i: usize = 1;
-    while i < list.len() {
+    let mut next = measure_type(types, first, used);
+    let count = list.len();
+    for i in 1..count {
         let t = list[i];
-        next = measure_type(file, types, t, capped(next + 1));
-        i += 1;
+        next = measure_type(types, t, capped(next + 1));
     }
     next
 }
 
 // The length of a type's text, where all over 4,096 count as 4,097.
-fn text_length(file: &[u8], types: &[u32], t: u32) -> usize
-    requires sound { Sound file.now types.now }
-    requires table_ok { TableOk (table_of file.now types.now) }
-    ensures { result ≡ min 4097 (length (type_text (table_of file.now types.now) t)) }
+fn text_length(types: &Types, t: u32) -> usize
+    ensures { result ≡ min 4097 (length (type_text (table_of types.now.file.now types.now.words.now) t)) }
 {
-    measure_type(file, types, t, 0)
+    measure_type(types, t, 0)
 }
 
 // ------------------------------------------------------------------ writing
 
 // Writes the text of a type at a place, and returns the place behind it.
 #[cycle(write_array_write_list_write_pointer_write_rest_write_tuple_write_type)]
-fn write_type(file: &[u8], types: &[u32], t: u32, out: &mut [u8], at: usize) -> usize
-    requires sound { Sound file.now types.now }
-    requires table_ok { TableOk (table_of file.now types.now) }
-    requires t_in_bounds { at + length (type_text (table_of file.now types.now) t) ≤ length out.old }
-    ensures { Wrote (type_text (table_of file.now types.now) t) at out.old out.new result }
+fn write_type(types: &Types, t: u32, out: &mut [u8], at: usize) -> usize
+    requires t_in_bounds { at + length (type_text (table_of types.now.file.now types.now.words.now) t) ≤ length out.old }
+    ensures { Wrote (type_text (table_of types.now.file.now types.now.words.now) t) at out.old out.new result }
 {
-    match type_table::data(types, t) {
+    match type_table::data(types.words, t) {
         TypeData::Felt => put(out, at, b"felt"),
         TypeData::Bool => put(out, at, b"bool"),
         TypeData::U32 => put(out, at, b"u32"),
         TypeData::Unknown => put(out, at, b"unknown"),
         TypeData::Error => put(out, at, b"error"),
-        TypeData::Tuple(_) => {
-            let list = type_table::items_of(types, t);
-            write_tuple(file, types, t, list, out, at)
+        TypeData::Tuple(elements) => {
+            let list = type_table::types_in(types.words, elements);
+            write_tuple(types, t, list, out, at)
         }
-        TypeData::Pointer(element) => write_pointer(file, types, element, out, at),
-        TypeData::FixedArray(element, size) => write_array(file, types, element, size, out, at),
+        TypeData::Pointer(element) => write_pointer(types, element, out, at),
+        TypeData::FixedArray(element, size) => write_array(types, element, size, out, at),
         TypeData::Struct(home, definition, _) => put_definition(
             out, at, b"struct:", home, definition,
         ),
@@ -189,53 +178,33 @@ fn write_type(file: &[u8], types: &[u32], t: u32, out: &mut [u8], at: usize) -> 
 }
 
 #[cycle(write_array_write_list_write_pointer_write_rest_write_tuple_write_type)]
-fn write_tuple(
-    file: &[u8],
-    types: &[u32],
-    holder: u32,
-    list: &[u32],
-    out: &mut [u8],
-    at: usize,
-) -> usize
-    requires sound { Sound file.now types.now }
-    requires table_ok { TableOk (table_of file.now types.now) }
+fn write_tuple(types: &Types, holder: u32, list: &[u32], out: &mut [u8], at: usize) -> usize
     requires all_below { AllBelow holder list.now }
-    requires list_in_bounds { at + length (tuple_text (type_text (table_of file.now types.now)) list.now) ≤ length out.old }
-    ensures { Wrote (tuple_text (type_text (table_of file.now types.now)) list.now) at out.old out.new result }
+    requires list_in_bounds { at + length (tuple_text (type_text (table_of types.now.file.now types.now.words.now)) list.now) ≤ length out.old }
+    ensures { Wrote (tuple_text (type_text (table_of types.now.file.now types.now.words.now)) list.now) at out.old out.new result }
 {
     let first = put(out, at, b"(");
-    let second = write_list(file, types, holder, list, out, first);
+    let second = write_list(types, holder, list, out, first);
     put(out, second, b")")
 }
 
 #[cycle(write_array_write_list_write_pointer_write_rest_write_tuple_write_type)]
-fn write_pointer(file: &[u8], types: &[u32], element: u32, out: &mut [u8], at: usize) -> usize
-    requires sound { Sound file.now types.now }
-    requires table_ok { TableOk (table_of file.now types.now) }
-    requires element_in_bounds { at + length (pointer_text (type_text (table_of file.now types.now)) element) ≤ length out.old }
-    ensures { Wrote (pointer_text (type_text (table_of file.now types.now)) element) at out.old out.new result }
+fn write_pointer(types: &Types, element: u32, out: &mut [u8], at: usize) -> usize
+    requires element_in_bounds { at + length (pointer_text (type_text (table_of types.now.file.now types.now.words.now)) element) ≤ length out.old }
+    ensures { Wrote (pointer_text (type_text (table_of types.now.file.now types.now.words.now)) element) at out.old out.new result }
 {
     let first = put(out, at, b"ptr(");
-    let second = write_type(file, types, element, out, first);
+    let second = write_type(types, element, out, first);
     put(out, second, b")")
 }
 
 #[cycle(write_array_write_list_write_pointer_write_rest_write_tuple_write_type)]
-fn write_array(
-    file: &[u8],
-    types: &[u32],
-    element: u32,
-    size: u64,
-    out: &mut [u8],
-    at: usize,
-) -> usize
-    requires sound { Sound file.now types.now }
-    requires table_ok { TableOk (table_of file.now types.now) }
-    requires size_in_bounds { at + length (array_text (type_text (table_of file.now types.now)) element size) ≤ length out.old }
-    ensures { Wrote (array_text (type_text (table_of file.now types.now)) element size) at out.old out.new result }
+fn write_array(types: &Types, element: u32, size: u64, out: &mut [u8], at: usize) -> usize
+    requires size_in_bounds { at + length (array_text (type_text (table_of types.now.file.now types.now.words.now)) element size) ≤ length out.old }
+    ensures { Wrote (array_text (type_text (table_of types.now.file.now types.now.words.now)) element size) at out.old out.new result }
 {
     let first = put(out, at, b"[");
-    let second = write_type(file, types, element, out, first);
+    let second = write_type(types, element, out, first);
     let third = put(out, second, b";");
     let fourth = put_decimal(out, third, size);
     put(out, fourth, b"]")
@@ -243,68 +212,48 @@ fn write_array(
 
 // Writes the texts of types below a type, with commas between them.
 #[cycle(write_array_write_list_write_pointer_write_rest_write_tuple_write_type)]
-fn write_list(
-    file: &[u8],
-    types: &[u32],
-    holder: u32,
-    list: &[u32],
-    out: &mut [u8],
-    at: usize,
-) -> usize
-    requires sound { Sound file.now types.now }
-    requires table_ok { TableOk (table_of file.now types.now) }
+fn write_list(types: &Types, holder: u32, list: &[u32], out: &mut [u8], at: usize) -> usize
     requires all_below { AllBelow holder list.now }
-    requires list_in_bounds { at + length (comma_texts (type_text (table_of file.now types.now)) list.now) ≤ length out.old }
-    ensures { Wrote (comma_texts (type_text (table_of file.now types.now)) list.now) at out.old out.new result }
+    requires list_in_bounds { at + length (comma_texts (type_text (table_of types.now.file.now types.now.words.now)) list.now) ≤ length out.old }
+    ensures { Wrote (comma_texts (type_text (table_of types.now.file.now types.now.words.now)) list.now) at out.old out.new result }
 {
-    if list.len() == 0 {
+    if list.is_empty() {
         return at;
     }
     let first = list[0];
-    let next = write_type(file, types, first, out, at);
+    let next = write_type(types, first, out, at);
     let rest = &list[1..];
-    write_rest(file, types, holder, rest, out, next)
+    write_rest(types, holder, rest, out, next)
 }
 
 // Writes the texts of types below a type, with a comma before each.
 #[cycle(write_array_write_list_write_pointer_write_rest_write_tuple_write_type)]
-fn write_rest(
-    file: &[u8],
-    types: &[u32],
-    holder: u32,
-    list: &[u32],
-    out: &mut [u8],
-    at: usize,
-) -> usize
-    requires sound { Sound file.now types.now }
-    requires table_ok { TableOk (table_of file.now types.now) }
+fn write_rest(types: &Types, holder: u32, list: &[u32], out: &mut [u8], at: usize) -> usize
     requires all_below { AllBelow holder list.now }
-    requires list_in_bounds { at + length (comma_rest (type_text (table_of file.now types.now)) list.now) ≤ length out.old }
-    ensures { Wrote (comma_rest (type_text (table_of file.now types.now)) list.now) at out.old out.new result }
+    requires list_in_bounds { at + length (comma_rest (type_text (table_of types.now.file.now types.now.words.now)) list.now) ≤ length out.old }
+    ensures { Wrote (comma_rest (type_text (table_of types.now.file.now types.now.words.now)) list.now) at out.old out.new result }
 {
     let mut next = at;
-    let mut i: usize = 0;
-    while i < list.len() {
-        let t = list[i];
+    for t in list {
         next = put(out, next, b",");
-        next = write_type(file, types, t, out, next);
-        i += 1;
+        next = write_type(types, *t, out, next);
     }
     next
 }
 
 // Writes the text of a type at the start of a buffer, where it is at most 4,096 bytes and the buffer has room.
-pub fn write_text(file: &[u8], types: &[u32], t: u32, out: &mut [u8]) -> TypeText
+pub fn write_text(file: &[u8], types: &[u32], t: u32, out: &mut [u8]) -> Result<usize, TextError>
     requires sound { Sound file.now types.now }
     requires table_ok { TableOk (table_of file.now types.now) }
     ensures { WritesText (type_text (table_of file.now types.now) t) out.old out.new result }
 {
-    let n = text_length(file, types, t);
+    let held = Types { file, words: types };
+    let n = text_length(&held, t);
     if MAX_TEXT < n {
-        return TypeText::TooLong;
+        return Err(TextError::TooLong);
     }
     if out.len() < n {
-        return TypeText::NoRoom;
+        return Err(TextError::NoRoom);
     }
-    TypeText::Written(write_type(file, types, t, out, 0))
+    Ok(write_type(&held, t, out, 0))
 }

@@ -1,78 +1,102 @@
 -- Types, rows and lists compared: an element has a lower number than its holder, so the calls end. Assumes nothing.
-use mathlib.Core.Path.{ap}
-use mathlib.Core.Bool.{not}
-use mathlib.Core.Path.{◌≡◌, sym, ◌∙◌}
-use mathlib.Core.Bool.{true, false}
+use mathlib.Core.Path.{◌≡◌, ap, ◌∙◌}
+use mathlib.Core.Bool.{true, false, not}
 use native.Mathlib.Omega.{arith}
 use Rattle.resolution.specs.Compatible.{are_types_compatible}
 use Rattle.type_table.specs.Layout.{table_of, AllBelow}
 use Rattle.compatibility.proofs.Store.{mark}
-use Rattle.compatibility.proofs.Compared.{numbers_equal, rows_tested, pointer_below, array_below, tuple_below, rows_left, rows_right, rows_other, rows_plain, rows_pointer, rows_sizes, rows_array, rows_tuple, lists_step, lists_stop, lists_end, lists_length}
+use Rattle.compatibility.proofs.ByKind.{Apart, apart_pointer, apart_array, apart_tuple, apart_plain, or_first, or_second}
+use Rattle.compatibility.proofs.Compared.{numbers_equal, rows_tested, pointer_below, array_below, tuple_below, rows_pointer, rows_sizes, rows_array, rows_tuple, rows_apart, lists_step, lists_stop, lists_end, lists_length}
 use Rattle.compatibility.proofs.+compatible_compatible_lists_compatible_rows.Goals as goal
+use Rattle.compatibility.proofs.+compatible_compatible_lists_compatible_rows.Goals.{compatible_rows-in_default-via-in-Pointer+in_default, compatible_rows-in_default-via-in-FixedArray+in_default, compatible_rows-in_default-via-in-Tuple+in_default, compatible_rows-in_default-via-in_default}
 
 pub compatible-returns-then-actual-expected-clause-value : goal.compatible-returns-then-actual-expected-clause-value
-compatible-returns-then-actual-expected-clause-value t c = numbers_equal c.args.file.now c.args.types.now c.args.actual c.args.expected c.if-actual-expected.true
+compatible-returns-then-actual-expected-clause-value t c =
+    let types = c.args.types.now in
+    numbers_equal types.file.now types.words.now c.args.actual c.args.expected c.if-actual-expected.true
 
 pub compatible-returns-then-compatible_rows-clause-remembers_2 : goal.compatible-returns-then-compatible_rows-clause-remembers_2
-compatible-returns-then-compatible_rows-clause-remembers_2 t c = let good : true ≡ are_types_compatible (table_of c.args.file.now c.args.types.now) c.args.actual c.args.expected =
-    rows_tested c.args.file.now c.args.types.now c.requires.table_ok c.args.actual c.args.expected c.if-actual-expected.false (c.compatible_rows.result) true (c.compatible_rows.ensures.value) c.if-compatible_rows.true in
-    mark c.args.file.now c.args.types.now (c.compatible_rows.new.seen) c.mark.new.seen c.args.actual c.args.expected c.requires.sound.types c.requires.actual_bound.0 c.requires.actual_bound.1 good (c.compatible_rows.ensures.remembers_2) c.mark.ensures
+compatible-returns-then-compatible_rows-clause-remembers_2 t c =
+    let types = c.args.types.now in
+    let good : true ≡ are_types_compatible (table_of types.file.now types.words.now) c.args.actual c.args.expected =
+    rows_tested types.file.now types.words.now types.table_ok c.args.actual c.args.expected c.if-actual-expected.false (c.compatible_rows.result) true (c.compatible_rows.ensures.value) c.if-compatible_rows.true in
+    mark types.file.now types.words.now (c.compatible_rows.new.seen) c.mark.new.seen c.args.actual c.args.expected types.sound.types c.requires.actual_bound.0 c.requires.actual_bound.1 good (c.compatible_rows.ensures.remembers_2) c.mark.ensures
 
 pub compatible-returns-then-compatible_rows-clause-value : goal.compatible-returns-then-compatible_rows-clause-value
-compatible-returns-then-compatible_rows-clause-value t c = let good : true ≡ are_types_compatible (table_of c.args.file.now c.args.types.now) c.args.actual c.args.expected =
-    rows_tested c.args.file.now c.args.types.now c.requires.table_ok c.args.actual c.args.expected c.if-actual-expected.false (c.compatible_rows.result) true (c.compatible_rows.ensures.value) c.if-compatible_rows.true in
-    good
+compatible-returns-then-compatible_rows-clause-value t c =
+    let types = c.args.types.now in
+    rows_tested types.file.now types.words.now types.table_ok c.args.actual c.args.expected c.if-actual-expected.false (c.compatible_rows.result) true (c.compatible_rows.ensures.value) c.if-compatible_rows.true
 
 pub compatible-returns-clause-value : goal.compatible-returns-clause-value
-compatible-returns-clause-value t c = rows_tested c.args.file.now c.args.types.now c.requires.table_ok c.args.actual c.args.expected c.if-actual-expected.false (c.compatible_rows.result) false (c.compatible_rows.ensures.value) c.if-compatible_rows.false
+compatible-returns-clause-value t c =
+    let types = c.args.types.now in
+    rows_tested types.file.now types.words.now types.table_ok c.args.actual c.args.expected c.if-actual-expected.false (c.compatible_rows.result) false (c.compatible_rows.ensures.value) c.if-compatible_rows.false
 
-pub compatible_lists-returns-then-left-right-clause-value : goal.compatible_lists-returns-then-left-right-clause-value
-compatible_lists-returns-then-left-right-clause-value t c = lists_length c.args.file.now c.args.types.now c.args.left.now c.args.right.now c.if-left-right.true
+pub compatible_lists-returns-then-count-right-clause-value : goal.compatible_lists-returns-then-count-right-clause-value
+compatible_lists-returns-then-count-right-clause-value t c =
+    let types = c.args.types.now in
+    lists_length types.file.now types.words.now c.args.left.now c.args.right.now c.if-count-right.true
 
 pub compatible_lists-returns-then-not-compatible-clause-value : goal.compatible_lists-returns-then-not-compatible-clause-value
-compatible_lists-returns-then-not-compatible-clause-value t c = lists_stop c.args.file.now c.args.types.now c.args.left.now c.args.right.now c.loop-i.i c.loop-i.invariant.1.1.1 (omega arith) (omega arith) c.compatible.result c.compatible.ensures.value (ap not c.if-not-compatible.true)
+compatible_lists-returns-then-not-compatible-clause-value t c =
+    let types = c.args.types.now in
+    lists_stop types.file.now types.words.now c.args.left.now c.args.right.now c.loop-i.i c.loop-i.invariant.4 (omega arith) (omega arith) c.compatible.result c.compatible.ensures.value (ap not c.if-not-compatible.true)
 
 pub compatible_lists-loop-i-preserved : goal.compatible_lists-loop-i-preserved
-compatible_lists-loop-i-preserved t c = (omega arith, (c.loop-i.invariant.1.0, (c.compatible.ensures.remembers_2, lists_step c.args.file.now c.args.types.now c.args.left.now c.args.right.now c.loop-i.i c.loop-i.invariant.1.1.1 (omega arith) (omega arith) c.compatible.result c.compatible.ensures.value (ap not c.if-not-compatible.false))))
+compatible_lists-loop-i-preserved t c =
+    let types = c.args.types.now in
+    (omega arith, c.loop-i.invariant.1, c.loop-i.invariant.2, c.compatible.ensures.remembers_2, lists_step types.file.now types.words.now c.args.left.now c.args.right.now c.loop-i.i c.loop-i.invariant.4 (omega arith) (omega arith) c.compatible.result c.compatible.ensures.value (ap not c.if-not-compatible.false))
 
 pub compatible_lists-returns-clause-value : goal.compatible_lists-returns-clause-value
-compatible_lists-returns-clause-value t c = lists_end c.args.file.now c.args.types.now c.args.left.now c.args.right.now c.loop-i.i c.loop-i.invariant.1.1.1 (omega arith) (omega arith)
-
-pub compatible_rows-returns-then-is_error_or_unknown-clause-value : goal.compatible_rows-returns-then-is_error_or_unknown-clause-value
-compatible_rows-returns-then-is_error_or_unknown-clause-value t c = rows_left c.args.file.now c.args.types.now c.requires.sound c.args.actual c.args.expected c.requires.actual_bound.0 c.requires.actual_bound.1 c.head_of-a.result c.head_of-e.result c.head_of-a.ensures c.head_of-e.ensures (sym c.is_error_or_unknown.ensures ∙ c.if-is_error_or_unknown.true)
-
-pub compatible_rows-returns-then-is_error_or_unknown-2-clause-value : goal.compatible_rows-returns-then-is_error_or_unknown-2-clause-value
-compatible_rows-returns-then-is_error_or_unknown-2-clause-value t c = rows_right c.args.file.now c.args.types.now c.requires.sound c.args.actual c.args.expected c.requires.actual_bound.0 c.requires.actual_bound.1 c.head_of-a.result c.head_of-e.result c.head_of-a.ensures c.head_of-e.ensures (sym c.is_error_or_unknown.ensures ∙ c.if-is_error_or_unknown.false) (sym c.is_error_or_unknown-2.ensures ∙ c.if-is_error_or_unknown-2.true)
-
-pub compatible_rows-returns-then-a-e-clause-value : goal.compatible_rows-returns-then-a-e-clause-value
-compatible_rows-returns-then-a-e-clause-value t c = rows_other c.args.file.now c.args.types.now c.requires.sound c.args.actual c.args.expected c.requires.actual_bound.0 c.requires.actual_bound.1 c.head_of-a.result c.head_of-e.result c.head_of-a.ensures c.head_of-e.ensures (sym c.is_error_or_unknown.ensures ∙ c.if-is_error_or_unknown.false) (sym c.is_error_or_unknown-2.ensures ∙ c.if-is_error_or_unknown-2.false) c.if-a-e.true
+compatible_lists-returns-clause-value t c =
+    let types = c.args.types.now in
+    lists_end types.file.now types.words.now c.args.left.now c.args.right.now c.loop-i.i c.loop-i.invariant.4 (omega arith) (omega arith)
 
 pub compatible_rows-compatible-requires : goal.compatible_rows-compatible-requires
-compatible_rows-compatible-requires t c = let left_below = pointer_below c.args.file.now c.args.types.now c.requires.sound c.args.actual c.requires.actual_bound.0 c.head_of-a.result c.head_of-a.ensures c.if-kind-eq-KIND_POINTER.true in
-    let right-below = pointer_below c.args.file.now c.args.types.now c.requires.sound c.args.expected c.requires.actual_bound.1 c.head_of-e.result c.head_of-e.ensures (sym c.if-a-e.false ∙ c.if-kind-eq-KIND_POINTER.true) in
-    (omega arith, (c.requires.sound, (c.requires.table_ok, ((omega (arith, left_below, c.requires.actual_bound.0), omega (arith, right-below, c.requires.actual_bound.1)), c.requires.remembers))))
+compatible_rows-compatible-requires t c =
+    let types = c.args.types.now in
+    let below-a = pointer_below c.data-a.ensures types.file.now types.sound c.in-Pointer-Pointer.is-0 in
+    let below-e = pointer_below c.data-e.ensures types.file.now types.sound c.in-Pointer-Pointer.is-1 in
+    (omega arith, ((omega (arith, below-a, c.requires.actual_bound.0), omega (arith, below-e, c.requires.actual_bound.1)), c.requires.remembers))
 
-pub compatible_rows-returns-then-kind-eq-KIND_POINTER-clause-value : goal.compatible_rows-returns-then-kind-eq-KIND_POINTER-clause-value
-compatible_rows-returns-then-kind-eq-KIND_POINTER-clause-value t c = rows_pointer c.args.file.now c.args.types.now c.requires.sound c.args.actual c.args.expected c.requires.actual_bound.0 c.requires.actual_bound.1 c.head_of-a.result c.head_of-e.result c.head_of-a.ensures c.head_of-e.ensures c.compatible.result c.if-kind-eq-KIND_POINTER.true c.if-a-e.false c.compatible.ensures.value
+pub compatible_rows-returns-in-Pointer-Pointer-clause-value : goal.compatible_rows-returns-in-Pointer-Pointer-clause-value
+compatible_rows-returns-in-Pointer-Pointer-clause-value t c =
+    rows_pointer c.data-a.ensures c.data-e.ensures c.args.types.now.file.now c.compatible.result c.in-Pointer-Pointer.is-0 c.in-Pointer-Pointer.is-1 c.compatible.ensures.value
 
-pub compatible_rows-returns-then-a-e-2-clause-value : goal.compatible_rows-returns-then-a-e-2-clause-value
-compatible_rows-returns-then-a-e-2-clause-value t c = rows_sizes c.args.file.now c.args.types.now c.requires.sound c.args.actual c.args.expected c.requires.actual_bound.0 c.requires.actual_bound.1 c.head_of-a.result c.head_of-e.result c.head_of-a.ensures c.head_of-e.ensures c.if-kind-eq-KIND_ARRAY.true c.if-a-e.false c.if-a-e-2.true
+pub compatible_rows-returns-then-m-n-clause-value : goal.compatible_rows-returns-then-m-n-clause-value
+compatible_rows-returns-then-m-n-clause-value t c =
+    rows_sizes c.data-a.ensures c.data-e.ensures c.args.types.now.file.now c.in-FixedArray-FixedArray.is-0 c.in-FixedArray-FixedArray.is-1 c.if-m-n.true
 
-pub compatible_rows-compatible-requires-then-kind-eq-KIND_ARRAY : goal.compatible_rows-compatible-requires-then-kind-eq-KIND_ARRAY
-compatible_rows-compatible-requires-then-kind-eq-KIND_ARRAY t c = let left_below = array_below c.args.file.now c.args.types.now c.requires.sound c.args.actual c.requires.actual_bound.0 c.head_of-a.result c.head_of-a.ensures c.if-kind-eq-KIND_ARRAY.true in
-    let right-below = array_below c.args.file.now c.args.types.now c.requires.sound c.args.expected c.requires.actual_bound.1 c.head_of-e.result c.head_of-e.ensures (sym c.if-a-e.false ∙ c.if-kind-eq-KIND_ARRAY.true) in
-    (omega arith, (c.requires.sound, (c.requires.table_ok, ((omega (arith, left_below, c.requires.actual_bound.0), omega (arith, right-below, c.requires.actual_bound.1)), c.requires.remembers))))
+pub compatible_rows-compatible-requires-in-FixedArray-FixedArray : goal.compatible_rows-compatible-requires-in-FixedArray-FixedArray
+compatible_rows-compatible-requires-in-FixedArray-FixedArray t c =
+    let types = c.args.types.now in
+    let below-a = array_below c.data-a.ensures types.file.now types.sound c.in-FixedArray-FixedArray.is-0 in
+    let below-e = array_below c.data-e.ensures types.file.now types.sound c.in-FixedArray-FixedArray.is-1 in
+    (omega arith, ((omega (arith, below-a, c.requires.actual_bound.0), omega (arith, below-e, c.requires.actual_bound.1)), c.requires.remembers))
 
-pub compatible_rows-returns-then-kind-eq-KIND_ARRAY-clause-value : goal.compatible_rows-returns-then-kind-eq-KIND_ARRAY-clause-value
-compatible_rows-returns-then-kind-eq-KIND_ARRAY-clause-value t c = rows_array c.args.file.now c.args.types.now c.requires.sound c.args.actual c.args.expected c.requires.actual_bound.0 c.requires.actual_bound.1 c.head_of-a.result c.head_of-e.result c.head_of-a.ensures c.head_of-e.ensures c.compatible-then-kind-eq-KIND_ARRAY.result c.if-kind-eq-KIND_ARRAY.true c.if-a-e.false c.if-a-e-2.false c.compatible-then-kind-eq-KIND_ARRAY.ensures.value
-
-pub compatible_rows-returns-then-kind-ne-KIND_TUPLE-clause-value : goal.compatible_rows-returns-then-kind-ne-KIND_TUPLE-clause-value
-compatible_rows-returns-then-kind-ne-KIND_TUPLE-clause-value t c = rows_plain c.args.file.now c.args.types.now c.requires.sound c.args.actual c.args.expected c.requires.actual_bound.0 c.requires.actual_bound.1 c.head_of-a.result c.head_of-e.result c.head_of-a.ensures c.head_of-e.ensures (sym c.is_error_or_unknown.ensures ∙ c.if-is_error_or_unknown.false) (sym c.is_error_or_unknown-2.ensures ∙ c.if-is_error_or_unknown-2.false) c.if-kind-ne-KIND_TUPLE.true c.if-kind-eq-KIND_POINTER.false c.if-kind-eq-KIND_ARRAY.false
+pub compatible_rows-returns-else-m-n-clause-value : goal.compatible_rows-returns-else-m-n-clause-value
+compatible_rows-returns-else-m-n-clause-value t c =
+    rows_array c.data-a.ensures c.data-e.ensures c.args.types.now.file.now c.in-FixedArray-FixedArray.is-0 c.in-FixedArray-FixedArray.is-1 c.compatible-in-FixedArray-FixedArray.result c.if-m-n.false c.compatible-in-FixedArray-FixedArray.ensures.value
 
 pub compatible_rows-compatible_lists-requires : goal.compatible_rows-compatible_lists-requires
-compatible_rows-compatible_lists-requires t c = let left_below : AllBelow c.args.actual c.items_of-left.result.now = rw c.items_of-left.ensures (tuple_below c.args.file.now c.args.types.now c.requires.sound c.args.actual c.requires.actual_bound.0 c.head_of-a.result c.head_of-a.ensures c.if-kind-ne-KIND_TUPLE.false) in
-    let right-below : AllBelow c.args.expected c.items_of-right.result.now = rw c.items_of-right.ensures (tuple_below c.args.file.now c.args.types.now c.requires.sound c.args.expected c.requires.actual_bound.1 c.head_of-e.result c.head_of-e.ensures (sym c.if-a-e.false ∙ c.if-kind-ne-KIND_TUPLE.false)) in
-    (omega arith, (c.requires.sound, (c.requires.table_ok, ((c.requires.actual_bound.0, left_below, λ i past. omega (arith, right-below i past, c.requires.actual_bound.1)), c.requires.remembers))))
+compatible_rows-compatible_lists-requires t c =
+    let types = c.args.types.now in
+    let below-a : AllBelow c.args.actual c.types_in-left.result.now = rw c.types_in-left.ensures (tuple_below c.data-a.ensures types.file.now types.sound c.in-Tuple-Tuple.is-0) in
+    let below-e : AllBelow c.args.expected c.types_in-right.result.now = rw c.types_in-right.ensures (tuple_below c.data-e.ensures types.file.now types.sound c.in-Tuple-Tuple.is-1) in
+    (omega arith, ((c.requires.actual_bound.0, below-a, λ i past. omega (arith, below-e i past, c.requires.actual_bound.1)), c.requires.remembers))
 
-pub compatible_rows-returns-clause-value : goal.compatible_rows-returns-clause-value
-compatible_rows-returns-clause-value t c = rows_tuple c.args.file.now c.args.types.now c.requires.sound c.args.actual c.args.expected c.requires.actual_bound.0 c.requires.actual_bound.1 c.head_of-a.result c.head_of-e.result c.head_of-a.ensures c.head_of-e.ensures c.compatible_lists.result c.items_of-left.result.now c.items_of-right.result.now c.if-kind-ne-KIND_TUPLE.false c.if-a-e.false c.items_of-left.ensures c.items_of-right.ensures c.compatible_lists.ensures.value
+pub compatible_rows-returns-in-Tuple-Tuple-clause-value : goal.compatible_rows-returns-in-Tuple-Tuple-clause-value
+compatible_rows-returns-in-Tuple-Tuple-clause-value t c =
+    rows_tuple c.data-a.ensures c.data-e.ensures c.args.types.now.file.now c.compatible_lists.result c.types_in-left.result.now c.types_in-right.result.now c.in-Tuple-Tuple.is-0 c.in-Tuple-Tuple.is-1 c.types_in-left.ensures c.types_in-right.ensures c.compatible_lists.ensures.value
+
+pub compatible_rows-returns-then-is_error_or_unknown-clause-value : goal.compatible_rows-returns-then-is_error_or_unknown-clause-value
+compatible_rows-returns-then-is_error_or_unknown-clause-value t c =
+    let types = c.args.types.now in
+    let apart : Apart c.data-a.result c.data-e.result = elim c.in_default.branch [ compatible_rows-in_default-via-in-Pointer+in_default w ↦ apart_pointer w.in_default.is-0 w.in_default.not-Pointer-1 | compatible_rows-in_default-via-in-FixedArray+in_default w ↦ apart_array w.in_default.is-0 w.in_default.not-FixedArray-1 | compatible_rows-in_default-via-in-Tuple+in_default w ↦ apart_tuple w.in_default.is-0 w.in_default.not-Tuple-1 | compatible_rows-in_default-via-in_default w ↦ apart_plain w.in_default.not-Pointer-0 w.in_default.not-FixedArray-0 w.in_default.not-Tuple-0 ] in
+    or_first _ (c.is_error_or_unknown.ensures types.file.now types.words.now) c.if-is_error_or_unknown.true ∙ rows_apart c.data-a.ensures c.data-e.ensures types.file.now apart
+
+pub compatible_rows-returns-else-is_error_or_unknown-clause-value : goal.compatible_rows-returns-else-is_error_or_unknown-clause-value
+compatible_rows-returns-else-is_error_or_unknown-clause-value t c =
+    let types = c.args.types.now in
+    let apart : Apart c.data-a.result c.data-e.result = elim c.in_default.branch [ compatible_rows-in_default-via-in-Pointer+in_default w ↦ apart_pointer w.in_default.is-0 w.in_default.not-Pointer-1 | compatible_rows-in_default-via-in-FixedArray+in_default w ↦ apart_array w.in_default.is-0 w.in_default.not-FixedArray-1 | compatible_rows-in_default-via-in-Tuple+in_default w ↦ apart_tuple w.in_default.is-0 w.in_default.not-Tuple-1 | compatible_rows-in_default-via-in_default w ↦ apart_plain w.in_default.not-Pointer-0 w.in_default.not-FixedArray-0 w.in_default.not-Tuple-0 ] in
+    or_second (c.is_error_or_unknown.ensures types.file.now types.words.now) c.if-is_error_or_unknown.false (c.is_error_or_unknown-else-is_error_or_unknown.ensures types.file.now types.words.now) ∙ rows_apart c.data-a.ensures c.data-e.ensures types.file.now apart

@@ -1,5 +1,5 @@
 -- Types, rows and lists compared: an element has a lower number than its holder, so the calls end. Assumes nothing.
-use Prim.Native.Nat.{◌+◌, ◌*◌, ◌-◌, ◌≤◌}
+use Prim.Native.Nat.{◌+◌, ◌*◌, ◌≤◌}
 use mathlib.Core.Path.{◌≡◌}
 use lib.ListN.{length, drop}
 use Rattle.type_table.specs.Layout.{table_of}
@@ -16,7 +16,8 @@ abbrev pub decreases-compatible_rows : goal.decreases-compatible_rows
 decreases-compatible_rows l = 3 * l.actual + 1
 
 abbrev pub invariant-compatible_lists-loop-i : goal.invariant-compatible_lists-loop-i
-invariant-compatible_lists-loop-i l = (l.i ≤ length l.left) × ((length l.left ≡ length l.right) × (Remembers l.file l.types l.seen × (lists_compatible (table_of l.file l.types) l.left l.right ≡ lists_compatible (table_of l.file l.types) (drop l.i l.left) (drop l.i l.right))))
-
-abbrev pub decreases-compatible_lists-loop-i : goal.decreases-compatible_lists-loop-i
-decreases-compatible_lists-loop-i l = length l.left - l.i
+invariant-compatible_lists-loop-i l = (l.i ≤ l.count)
+    × (l.count ≡ length l.left)
+    × (length l.left ≡ length l.right)
+    × Remembers l.types.file.now l.types.words.now l.seen
+    × (lists_compatible (table_of l.types.file.now l.types.words.now) l.left l.right ≡ lists_compatible (table_of l.types.file.now l.types.words.now) (drop l.i l.left) (drop l.i l.right))

@@ -5,4 +5,4 @@ use Rattle.compatibility.proofs.compare_with_store.Goals as goal
 
 pub compatible-requires-clause-remembers : goal.compatible-requires-clause-remembers
 compatible-requires-clause-remembers c =
-    fresh c.args.file.now c.args.types.now 2048 refl
+    fresh c.args.types.now.file.now c.args.types.now.words.now 2048 refl

@@ -4,17 +4,19 @@ use mathlib.Core.Path.{◌≡◌, refl, sym, ap, subst, ◌∙◌}
 use mathlib.Core.List.{◌++◌}
 use native.Mathlib.Nat.{zero-add}
 use native.Mathlib.Omega.{arith}
-use borrow.Rule.Slice.PartMut.{put_same, put_mid}
+use borrow.Rule.Slice.PartMut.{mid_of, put_same, put_mid}
 use lib.ListN.{length, take, drop, length-append, length-take, length-drop}
-use Rattle.model.specs.Common.{bytes}
+use Rattle.std.specs.Prelude.{Err}
+use Rattle.model.specs.Common.{Text, bytes}
 use Rattle.views.specs.Asking.{asked_of}
-use Rattle.resolution.specs.Answer.{type_text, asked_lead}
+use Rattle.resolution.specs.Answer.{type_text, text_verdict, asked_lead}
 use Rattle.type_table.specs.Layout.{table_of}
+use Rattle.type_text.specs.declared.TextError.{TextError}
 use Rattle.type_text.specs.Text.{Wrote}
 use Rattle.type_text.proofs.Writing.{wrote_then, wrote_take}
 use Rattle.type_text.proofs.Laws.{written, too_long, no_room, verdict_typed, verdict_refused}
-use Rattle.line_text.specs.Lines.{LinePut, Answering, line_with}
-use Rattle.line_text.proofs.Lines.{between, typed_line, typed_length, line_longer}
+use Rattle.line_text.specs.Lines.{line_error_of, LinePut, TriedIs, Answering, line_with}
+use Rattle.line_text.proofs.Lines.{handed_on, between, typed_line, typed_length, line_longer}
 use Rattle.line_text.proofs.write_typed.Goals as goal
 
 pub returns-then-len-at : goal.returns-then-len-at
@@ -28,35 +30,48 @@ returns-then-len-at c =
     }
 
 pub overflow_add-at : goal.overflow_add-at
-overflow_add-at c = omega (arith, c.if-len-at.false, (written c.write_text.ensures c.in-Written.n c.in-Written.is).fits, length-take (length c.args.out.now - 1 - c.put-at.result) (drop c.put-at.result c.args.out.now), length-drop c.put-at.result c.args.out.now)
+overflow_add-at c = omega (arith, c.if-len-at.false, (written c.write_text.ensures c.in_ok-n.n c.in_ok-n.was).fits, length-take (length c.args.out.now - 1 - c.put-at.result) (drop c.put-at.result c.args.out.now), length-drop c.put-at.result c.args.out.now)
 
 pub put-last-requires : goal.put-last-requires
 put-last-requires c =
-    omega (arith, c.if-len-at.false, (written c.write_text.ensures c.in-Written.n c.in-Written.is).fits, length-take (length c.args.out.now - 1 - c.put-at.result) (drop c.put-at.result c.args.out.now), length-drop c.put-at.result c.args.out.now)
+    omega (arith, c.if-len-at.false, (written c.write_text.ensures c.in_ok-n.n c.in_ok-n.was).fits, length-take (length c.args.out.now - 1 - c.put-at.result) (drop c.put-at.result c.args.out.now), length-drop c.put-at.result c.args.out.now)
 
-pub returns-in-TooLong : goal.returns-in-TooLong
-returns-in-TooLong c =
-    let text = type_text (table_of c.args.file.now c.args.types.now) c.args.t in
-    let over = too_long c.write_text.ensures c.in-TooLong.is in
-    record { is = verdict_refused text over.0; same = ap (put_mid c.put-at.result (length c.args.out.now - 1 - c.put-at.result) c.args.out.now) over.1 ∙ put_same c.put-at.result (length c.args.out.now - 1 - c.put-at.result) c.args.out.now }
+pub returns-in_err-n : goal.returns-in_err-n
+returns-in_err-n c =
+    handed_on lead (text_verdict text) c.args.out.now (put_mid c.put-at.result (length c.args.out.now - 1 - c.put-at.result) c.args.out.now c.write_text.new.out) c.in_err-n.field-0.0 c.from_residual.result c.from_residual.ensures.1
+    (tried c.in_err-n.field-0.0 c.in_err-n.was)
+  where
+    lead : Text
+    lead = asked_lead (asked_of c.args.asked)
 
-pub returns-in-NoRoom : goal.returns-in-NoRoom
-returns-in-NoRoom c =
+    text : Text
+    text = type_text (table_of c.args.file.now c.args.types.now) c.args.t
+
+    kept : c.write_text.new.out ≡ mid_of c.put-at.result (length c.args.out.now - 1 - c.put-at.result) c.args.out.now
+        → put_mid c.put-at.result (length c.args.out.now - 1 - c.put-at.result) c.args.out.now c.write_text.new.out ≡ c.args.out.now
+    kept same =
+        ap (put_mid c.put-at.result (length c.args.out.now - 1 - c.put-at.result) c.args.out.now) same
+        ∙ put_same c.put-at.result (length c.args.out.now - 1 - c.put-at.result) c.args.out.now
+
+    tried : (cause : TextError) → c.write_text.result ≡ Err cause
+        → TriedIs lead (text_verdict text) c.args.out.now (put_mid c.put-at.result (length c.args.out.now - 1 - c.put-at.result) c.args.out.now c.write_text.new.out) (Err (line_error_of cause))
+    tried TextError.TooLong is =
+        let over = too_long c.write_text.ensures is in
+        record { is = verdict_refused text over.0; same = kept over.1 }
+    tried TextError.NoRoom is =
+        let all = wrote_then lead (bytes "type\t") _ _ _ _ _ _ zero-le c.put_lead-named.ensures.wrote c.put-at.ensures in
+        let none = no_room c.write_text.ensures is in
+        record {
+          short = subst (λ v. length c.args.out.now < length (line_with lead v)) (sym (verdict_typed text none.0)) (omega (arith, none.1, typed_length lead text, all.next, length-append lead (bytes "type\t"), length-take (length c.args.out.now - 1 - c.put-at.result) (drop c.put-at.result c.args.out.now), length-drop c.put-at.result c.args.out.now, c.if-len-at.false));
+          same = kept none.2;
+        }
+
+pub returns : goal.returns
+returns c =
     let lead = asked_lead (asked_of c.args.asked) in
     let text = type_text (table_of c.args.file.now c.args.types.now) c.args.t in
     let all = wrote_then lead (bytes "type\t") _ _ _ _ _ _ zero-le c.put_lead-named.ensures.wrote c.put-at.ensures in
-    let none = no_room c.write_text.ensures c.in-NoRoom.is in
-    record {
-      short = subst (λ v. length c.args.out.now < length (line_with lead v)) (sym (verdict_typed text none.0)) (omega (arith, none.1, typed_length lead text, all.next, length-append lead (bytes "type\t"), length-take (length c.args.out.now - 1 - c.put-at.result) (drop c.put-at.result c.args.out.now), length-drop c.put-at.result c.args.out.now, c.if-len-at.false));
-      same = ap (put_mid c.put-at.result (length c.args.out.now - 1 - c.put-at.result) c.args.out.now) none.2 ∙ put_same c.put-at.result (length c.args.out.now - 1 - c.put-at.result) c.args.out.now;
-    }
-
-pub returns-in-Written : goal.returns-in-Written
-returns-in-Written c =
-    let lead = asked_lead (asked_of c.args.asked) in
-    let text = type_text (table_of c.args.file.now c.args.types.now) c.args.t in
-    let all = wrote_then lead (bytes "type\t") _ _ _ _ _ _ zero-le c.put_lead-named.ensures.wrote c.put-at.ensures in
-    let stands = written c.write_text.ensures c.in-Written.n c.in-Written.is in
+    let stands = written c.write_text.ensures c.in_ok-n.n c.in_ok-n.was in
     let typed = verdict_typed text (omega (arith, stands.exact, stands.small)) in
     let at : length (lead ++ bytes "type\t") ≡ c.put-at.result = sym (all.next ∙ zero-add (length (lead ++ bytes "type\t"))) in
     let front : take c.put-at.result c.put-at.new.out ≡ lead ++ bytes "type\t" = wrote_take (lead ++ bytes "type\t") _ _ _ _ (omega (arith, at, c.put_lead-named.auto.out, c.put_lead-named.ensures.few, c.put-at.ensures.next)) all in
@@ -64,7 +79,7 @@ returns-in-Written c =
       answering = subst Answering (sym typed) tt;
       put =
           subst (λ l. LinePut l c.args.out.now c.put-last.new.out c.put-last.result) (typed_line lead text ∙ ap (line_with lead) (sym typed))
-          (between (lead ++ bytes "type\t") text c.args.out.now c.write_text.new.out c.put.new.out c.put-at.result c.in-Written.n c.put.result at c.if-len-at.false stands
+          (between (lead ++ bytes "type\t") text c.args.out.now c.write_text.new.out c.put.new.out c.put-at.result c.in_ok-n.n c.put.result at c.if-len-at.false stands
           (subst (λ l. Wrote l 0 (put_mid c.put-at.result (length c.args.out.now - 1 - c.put-at.result) c.args.out.now c.write_text.new.out) c.put.new.out c.put.result) front c.put.ensures)
           c.put-last.new.out c.put-last.result c.put-last.ensures);
     }

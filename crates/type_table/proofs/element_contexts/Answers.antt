@@ -14,8 +14,8 @@ returns-in_default-tuple_of c =
 
 pub returns-then-held-count : goal.returns-then-held-count
 returns-then-held-count c =
-    all_contexts c.args.types.now c.args.context c.args.count c.in-Some.is c.tuple_of.ensures c.in-Some-tuple_of.is (sym (ap length c.words_from-held.ensures) ∙ c.if-held-count.true)
+    all_contexts c.args.types.now c.args.context c.args.count c.in-Some.is c.tuple_of.ensures c.in-Some-tuple_of.is (sym (ap length c.types_in-held.ensures) ∙ c.if-held-count.true)
 
 pub returns-else-held-count : goal.returns-else-held-count
 returns-else-held-count c =
-    other_count c.args.types.now c.args.context c.args.count c.in-Some.is c.tuple_of.ensures c.in-Some-tuple_of.is (λ e. c.if-held-count.false (ap length c.words_from-held.ensures ∙ e))
+    other_count c.args.types.now c.args.context c.args.count c.in-Some.is c.tuple_of.ensures c.in-Some-tuple_of.is (λ e. c.if-held-count.false (ap length c.types_in-held.ensures ∙ e))

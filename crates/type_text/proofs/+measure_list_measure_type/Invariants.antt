@@ -1,5 +1,5 @@
 -- Types and lists measured: an element has a lower number than its holder, so the calls end. Assumes nothing.
-use Prim.Native.Nat.{◌+◌, ◌*◌, ◌-◌, ◌≤◌, min}
+use Prim.Native.Nat.{◌+◌, ◌*◌, ◌≤◌, min}
 use mathlib.Core.Path.{◌≡◌}
 use lib.ListN.{length, take}
 use Rattle.resolution.specs.Answer.{comma_texts, type_text}
@@ -10,10 +10,7 @@ abbrev pub decreases-measure_list : goal.decreases-measure_list
 decreases-measure_list l = 2 * l.holder
 
 abbrev pub invariant-measure_list-loop-i : goal.invariant-measure_list-loop-i
-invariant-measure_list-loop-i l = (1 ≤ l.i) × ((l.i ≤ length l.list) × (l.next ≡ min 4097 (l.used + length (comma_texts (type_text (table_of l.file l.types)) (take l.i l.list)))))
-
-abbrev pub decreases-measure_list-loop-i : goal.decreases-measure_list-loop-i
-decreases-measure_list-loop-i l = length l.list - l.i
+invariant-measure_list-loop-i l = (1 ≤ l.i) × ((l.i ≤ length l.list) × (l.next ≡ min 4097 (l.used + length (comma_texts (type_text (table_of l.types.file.now l.types.words.now)) (take l.i l.list)))))
 
 abbrev pub decreases-measure_type : goal.decreases-measure_type
 decreases-measure_type l = 2 * l.t + 1

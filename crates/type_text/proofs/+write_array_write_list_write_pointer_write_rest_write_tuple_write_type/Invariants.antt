@@ -1,5 +1,5 @@
 -- The text of a type written by its kind: an element has a lower number than its holder, so the calls end. Assumes nothing.
-use Prim.Native.Nat.{◌+◌, ◌*◌, ◌-◌, ◌≤◌}
+use Prim.Native.Nat.{◌+◌, ◌*◌, ◌≤◌}
 use mathlib.Core.Path.{◌≡◌}
 use lib.ListN.{length, take}
 use Rattle.resolution.specs.Answer.{type_text}
@@ -25,8 +25,5 @@ decreases-write_tuple l = 4 * l.holder + 2
 abbrev pub decreases-write_type : goal.decreases-write_type
 decreases-write_type l = 4 * l.t + 3
 
-abbrev pub invariant-write_rest-loop-i : goal.invariant-write_rest-loop-i
-invariant-write_rest-loop-i l = (l.i ≤ length l.list) × ((length l.out ≡ length l.initial.out) × Wrote (comma_rest (type_text (table_of l.file l.types)) (take l.i l.list)) l.at l.initial.out l.out l.next)
-
-abbrev pub decreases-write_rest-loop-i : goal.decreases-write_rest-loop-i
-decreases-write_rest-loop-i l = length l.list - l.i
+abbrev pub invariant-write_rest-loop-t : goal.invariant-write_rest-loop-t
+invariant-write_rest-loop-t l = (l.t-index ≤ length l.list) × ((length l.out ≡ length l.initial.out) × Wrote (comma_rest (type_text (table_of l.types.file.now l.types.words.now)) (take l.t-index l.list)) l.at l.initial.out l.out l.next)
