@@ -2,11 +2,14 @@
 use Prim.Native.Nat.{ℕ, zero, suc, ◌≤◌, ◌<◌, min}
 use mathlib.Core.Path.{◌≡◌, refl, sym, ap, ap₂, subst, ◌∙◌}
 use mathlib.Core.List.{List, [], ◌∷◌, ◌++◌, append-nil}
-use Rattle.std.specs.Prelude.{None, Some}
+use Rattle.std.specs.Prelude.{Option, None, Some, Result, Ok, Err}
 use native.Mathlib.Nat.{zero-add}
 use native.Mathlib.Omega.{arith}
 use Rattle.std.specs.Prelude.{slice_get}
 use lib.ListN.{length, replicate, drop_of_length-le}
+use Rattle.refusals.specs.Numbers.{refusal_number, file_refusal_number}
+use Rattle.refusals.specs.declared.Refusal.{Refusal}
+use Rattle.refusals.specs.declared.FileRefused.{FileRefused}
 use Rattle.model.specs.Common.{Text}
 use Rattle.model.specs.Records.{Question, Index}
 use Rattle.model.specs.Limits.{max_open_demands}
@@ -23,14 +26,13 @@ use Rattle.resolution.proofs.Tables.{first_table_ok}
 use Rattle.type_table.specs.Layout.{table_of}
 use Rattle.type_table.specs.Promises.{Starts, cleared as cleared_types}
 use Rattle.demands.specs.Meaning.{open_demands, cleared, cleared_places, zero_place}
-use Rattle.type_resolution.specs.State.{Ready, Runs}
+use Rattle.type_resolution.specs.State.{Ready, Runs, answer_by}
 use Rattle.type_resolution.specs.Asking.{says}
 use Rattle.views.specs.Asking.{asked_of}
-use Rattle.type_resolution.specs.declared.Said as code_said
 use Rattle.views.specs.declared.Asked as code
 use Rattle.line_text.specs.Lines.{Answering, line_with}
 use Rattle.answers.specs.Steps.{Loaded, StepIs, zero_types, zero_places, TypesKept, SaidAnswered, TypesHold, TypesAre, AskedAnswered, TypesAfter, LineThere, Stepped}
-use Rattle.line_text.specs.declared.Tried.{Tried}
+use Rattle.line_text.specs.declared.LineError.{LineError}
 use Rattle.answers.specs.declared.Step.{Step}
 use Rattle.answers.proofs.AskedLines.{line_there, past_line}
 
@@ -66,7 +68,7 @@ module _ (file words types started : List ℕ) (demands : List (List ℕ)) (load
         below = omega arith;
       }
 
-  module _ (asked : code.Asked) (types' : List ℕ) (demands' : List (List ℕ)) (r : code_said.Said)
+  module _ (asked : code.Asked) (types' : List ℕ) (demands' : List (List ℕ)) (r : Result (Option ℕ) Refusal)
       (runs : Runs says file words (asked_program (index_of file words) (asked_of asked)) 0 started demands types' demands' r) where
     abbrev about : Asked
     about = asked_of asked
@@ -77,9 +79,9 @@ module _ (file words types started : List ℕ) (demands : List (List ℕ)) (load
         runs.outcome ∙ ap (λ table. run (demand max_open_demands (index_of file words) []) (asked_program (index_of file words) about) table) (starts.table long file)
 
     -- a refusal is the definition's
-    pub refused_as : (number : ℕ) → r ≡ code_said.Said.Refused number → verdict (index_of file words) about ≡ Some (Verdict.refused number)
-    unfolding verdict outcome_verdict says
-    refused_as number e = ap outcome_verdict (sym outcome ∙ ap (λ x. says x (table_of file types')) e)
+    pub refused_as : (refusal : Refusal) → r ≡ Err refusal → verdict (index_of file words) about ≡ Some (Verdict.refused (refusal_number refusal))
+    unfolding verdict outcome_verdict answer_by
+    refused_as refusal e = ap outcome_verdict (sym outcome ∙ ap (λ x. says x (table_of file types')) e)
 
     -- what is said otherwise, with the verdict of it
     module _ (said : Said) (is : says r (table_of file types') ≡ answered said (table_of file types')) (v : Verdict) (is_verdict : said_verdict (table_of file types') said ≡ Some v) where
@@ -90,30 +92,29 @@ module _ (file words types started : List ℕ) (demands : List (List ℕ)) (load
       unfolding verdict outcome_verdict
       verdict_as = ap outcome_verdict answered_as ∙ is_verdict
 
-      types_left : (last : List ℕ) (a : Tried) → TypesKept types' last a → TypesAre file (index_of file words) about last a
-      types_left last (Tried.Line n) kept = record { said = said; is = answered_as ∙ ap (λ w. answered said (table_of file w)) (sym kept) }
-      types_left last (Tried.Refused number) kept = kept
-      types_left last Tried.NoRoom kept = kept
+      types_left : (last : List ℕ) (a : Result ℕ LineError) → TypesKept types' last a → TypesAre file (index_of file words) about last a
+      types_left last (Ok n) kept = record { said = said; is = answered_as ∙ ap (λ w. answered said (table_of file w)) (sym kept) }
+      types_left last (Err error) kept = kept
 
       -- its line, or none, is the line about it
-      said_answer : (out last out' : List ℕ) (last_demands : List (List ℕ)) (a : Tried) → last_demands ≡ zero_places
+      said_answer : (out last out' : List ℕ) (last_demands : List (List ℕ)) (a : Result ℕ LineError) → last_demands ≡ zero_places
           → SaidAnswered (asked_lead about) v types' out last out' a
           → AskedAnswered file (index_of file words) about out last last_demands out' a
       said_answer out last out' last_demands a none_open all =
           record { v = v; has = verdict_as; is = all.is; types_are = types_left last a all.types_are; demands_are = none_open }
 
-    module _ (out last out' : List ℕ) (last_demands : List (List ℕ)) (a : Tried) (none_open : last_demands ≡ zero_places) where
-      pub typed_answer : (t : ℕ) → r ≡ code_said.Said.«Type» t
+    module _ (out last out' : List ℕ) (last_demands : List (List ℕ)) (a : Result ℕ LineError) (none_open : last_demands ≡ zero_places) where
+      pub typed_answer : (t : ℕ) → r ≡ Ok (Some t)
           → SaidAnswered (asked_lead about) (text_verdict (type_text (table_of file types') t)) types' out last out' a
           → AskedAnswered file (index_of file words) about out last last_demands out' a
-      unfolding says said_verdict
+      unfolding answer_by said_verdict
       typed_answer t e all =
           said_answer (Said.type t) (ap (λ x. says x (table_of file types')) e) (text_verdict (type_text (table_of file types') t)) refl out last out' last_demands a none_open all
 
-      pub none_answer : r ≡ code_said.Said.None
+      pub none_answer : r ≡ Ok None
           → SaidAnswered (asked_lead about) (Verdict.worded none_word) types' out last out' a
           → AskedAnswered file (index_of file words) about out last last_demands out' a
-      unfolding says said_verdict
+      unfolding answer_by said_verdict
       none_answer e all =
           said_answer none_said (ap (λ x. says x (table_of file types')) e) (Verdict.worded none_word) refl out last out' last_demands a none_open all
 
@@ -147,7 +148,7 @@ module _ (file : Text) (index : Index) (number : ℕ) (question : Question) (has
     the_line v has =
         record { question = question; has_question = has_question; line = record { asked = about; verdict = v }; is_line = line_there index question about v line_number (sym asks) has }
 
-    pub typed_step : (n : ℕ) → AskedAnswered file index about out types demands out' (Tried.Line n)
+    pub typed_step : (n : ℕ) → AskedAnswered file index about out types demands out' (Ok n)
         → Stepped file index number line_number before_types before_demands out types demands out' (Step.Line n)
     unfolding line_text
     typed_step n all =
@@ -161,26 +162,26 @@ module _ (file : Text) (index : Index) (number : ℕ) (question : Question) (has
           put = all.is.put;
         }
 
-    pub no_room_step : AskedAnswered file index about out types demands out' Tried.NoRoom
+    pub no_room_step : AskedAnswered file index about out types demands out' (Err LineError.NoRoom)
         → Stepped file index number line_number before_types before_demands out types demands out' Step.NoRoom
     unfolding line_text
     no_room_step all = record { there = the_line all.v all.has; not_put = all.is; types_are = all.types_are; demands_are = all.demands_are }
 
-    pub refused_step : (refusal : ℕ) → AskedAnswered file index about out types demands out' (Tried.Refused refusal)
-        → (last : List ℕ) (r : Step) → StepIs (line_with (asked_lead about) (Verdict.refused refusal)) out' last r
+    pub refused_step : (refusal : Refusal) → AskedAnswered file index about out types demands out' (Err (LineError.Refused refusal))
+        → (last : List ℕ) (r : Step) → StepIs (line_with (asked_lead about) (Verdict.refused (refusal_number refusal))) out' last r
         → Stepped file index number line_number before_types before_demands out types demands last r
     unfolding line_text
-    refused_step refusal all last r put = at r (subst (λ o. StepIs (line_with (asked_lead about) (Verdict.refused refusal)) o last r) all.is.same put)
+    refused_step refusal all last r put = at r (subst (λ o. StepIs (line_with (asked_lead about) (Verdict.refused (refusal_number refusal))) o last r) all.is.same put)
       where
-        has : verdict index about ≡ Some (Verdict.refused refusal)
+        has : verdict index about ≡ Some (Verdict.refused (refusal_number refusal))
         has = all.has ∙ ap Some all.is.is
 
-        at : (r : Step) → StepIs (line_with (asked_lead about) (Verdict.refused refusal)) out last r
+        at : (r : Step) → StepIs (line_with (asked_lead about) (Verdict.refused (refusal_number refusal))) out last r
             → Stepped file index number line_number before_types before_demands out types demands last r
         at (Step.Line n) put =
             record {
-              after = record { there = the_line (Verdict.refused refusal) has; types_are = all.types_are; demands_are = all.demands_are };
+              after = record { there = the_line (Verdict.refused (refusal_number refusal)) has; types_are = all.types_are; demands_are = all.demands_are };
               put = put;
             }
-        at Step.NoRoom put = record { there = the_line (Verdict.refused refusal) has; not_put = put; types_are = all.types_are; demands_are = all.demands_are }
+        at Step.NoRoom put = record { there = the_line (Verdict.refused (refusal_number refusal)) has; not_put = put; types_are = all.types_are; demands_are = all.demands_are }
         at Step.PastLast put = absurd put

@@ -1,14 +1,18 @@
 -- The public entries: what a loaded or refused file and a question found or lacking give, and the first words of longer buffers. Assumes nothing.
 use Prim.Native.Nat.{ℕ, ◌≤◌, ◌<◌}
+use mathlib.Core.Bool.{false≢true}
 use mathlib.Core.Path.{◌≡◌, refl, sym, ap, subst, ◌∙◌}
 use mathlib.Core.List.{List, [], ◌++◌, append_assoc}
-use Rattle.std.specs.Prelude.{None, Some}
+use Rattle.std.specs.Prelude.{None, Some, Result, Ok, Err, IsErr, IsErrAnd}
 use native.Mathlib.Omega.{arith}
 use borrow.Author.Tests.{le-leb, lt-leb}
 use Rattle.std.specs.Prelude.{slice_get}
 use lib.ListN.{length, take, drop, replicate, length-append, length-drop, take-append-drop}
 use lib.Seq.{take_at, drop_at, drop-append-le, take_all, length-take-le}
 use Rattle.std.specs.Prelude.{if◌then◌else◌}
+use Rattle.refusals.specs.Numbers.{refusal_number, file_refusal_number}
+use Rattle.refusals.specs.declared.Refusal.{Refusal}
+use Rattle.refusals.specs.declared.FileRefused.{FileRefused}
 use Rattle.model.specs.Common.{Text, let_some}
 use Rattle.model.specs.Records.{Question, Index}
 use Rattle.model.specs.Limits.{record_words, type_words, max_open_demands, answer_bytes}
@@ -20,19 +24,22 @@ use Rattle.resolution.specs.Answer.{Verdict, verdict, asked_lead, line_text, wri
 use Rattle.resolution.specs.Resolve.{Reply, line_at, ask_loaded, written_of, answer}
 use Rattle.resolution.proofs.Secrecy.{question_answered}
 use Rattle.resolution.proofs.LineFits.{line_fits}
-use Rattle.loader.specs.Load.{Filled}
-use Rattle.loader.specs.declared.Loaded.{Loaded as FileLoaded}
+use Rattle.loader.specs.Load.{Filled, Loaded as FileLoaded}
 use Rattle.line_text.specs.Lines.{put_first, Answering, line_with}
 use Rattle.answers.specs.Meaning.{verdict_answer, answer_of, answer_out, Lines, pieces_at, fill, lines_in, lines_from, answers_of, lines_out}
+use Rattle.answers.specs.Numbers.{LineNumbers, LinesNumbers}
 use Rattle.answers.specs.Steps.{Exact, Loaded, AskedAnswered, LineThere, LinesLeave, LinesWritten, zero_types, zero_places}
 use Rattle.answers.specs.Promises.{ExactAnswered, LeavesFrom, ExactAnsweredFrom, Buffers, Behind, Answered, AnsweredFrom}
-use Rattle.line_text.specs.declared.Tried.{Tried}
-use Rattle.answers.specs.declared.LineAnswer.{LineAnswer}
-use Rattle.answers.specs.declared.LinesAnswer.{LinesAnswer}
+use Rattle.line_text.specs.declared.LineError.{LineError}
 use Rattle.answers.proofs.AskedLines.{past_line}
 use Rattle.answers.proofs.Asking.{the_line}
 
 -- ------------------------------------------------------------------ a file
+
+-- a refusal of the file that `?` handed on
+pub handed_on : {A : Type 0} {r : Result A FileRefused} {e : FileRefused} → IsErr r × IsErrAnd r (λ x. x ≡ e) → r ≡ Err e
+handed_on {r = Ok x} h = absurd (false≢true h.0)
+handed_on {r = Err e} h = ap Err h.1
 
 -- exactly as many words: all of them are the first
 pub whole : (words : List ℕ) → length words ≡ record_words → take record_words words ≡ words
@@ -43,24 +50,24 @@ module _ (file before words types : List ℕ) (demands : List (List ℕ)) (exact
   words_same r filled = whole words (filled.long ∙ exact.words_long)
 
   -- an accepted file
-  pub file_loaded : Filled file before words FileLoaded.Accepted → Loaded file words types demands
+  pub file_loaded : Filled file before words (Ok tt) → Loaded file words types demands
   file_loaded filled =
       record {
         exact = record { words_long = filled.long ∙ exact.words_long; types_long = exact.types_long; places_long = exact.places_long };
-        is = sym filled.is ∙ ap (λ w. accepted (index_of file w)) (words_same FileLoaded.Accepted filled);
+        is = sym filled.is ∙ ap (λ w. accepted (index_of file w)) (words_same (Ok tt) filled);
       }
 
-  module _ (refusal line : ℕ) (filled : Filled file before words (FileLoaded.Refused refusal line)) where
-    pub file_refused : load file ≡ refused refusal line
+  module _ (e : FileRefused) (filled : Filled file before words (Err e)) where
+    pub file_refused : load file ≡ refused (file_refusal_number e.refusal) e.line
     file_refused = sym filled.is
 
     pub words_zero : words ≡ replicate record_words 0
-    words_zero = sym (words_same (FileLoaded.Refused refusal line) filled) ∙ filled.cleared
+    words_zero = sym (words_same (Err e) filled) ∙ filled.cleared
 
 -- ------------------------------------------------------------------ one line
 
 -- a line that is no refusal is written
-answering_is : (n : ℕ) (v : Verdict) → Answering v → verdict_answer n v ≡ LineAnswer.Line n
+answering_is : (n : ℕ) (v : Verdict) → Answering v → verdict_answer n v ≡ LineNumbers.Line n
 unfolding verdict_answer
 answering_is n (Verdict.typed text) answering = refl
 answering_is n (Verdict.worded word) answering = refl
@@ -74,7 +81,7 @@ answering_out asked (Verdict.refused number) answering = absurd answering
 
 module _ (file : Text) (number line_number : ℕ) (types : List ℕ) (demands : List (List ℕ)) (out : List ℕ) where
   pub refused_file : (refusal line : ℕ) (words : List ℕ) → load file ≡ refused refusal line → words ≡ replicate record_words 0
-      → ExactAnswered file number line_number types demands out words types demands out (LineAnswer.FileRefused refusal line)
+      → ExactAnswered file number line_number types demands out words types demands out (LineNumbers.FileRefused refusal line)
   unfolding answer ask_loaded answer_of answer_out written_of
   refused_file refusal line words is_refused zero =
       let reply : answer file number line_number ≡ Reply.file_refused refusal line = ap (λ l. ask_loaded l number line_number) is_refused in
@@ -85,7 +92,7 @@ module _ (file : Text) (number line_number : ℕ) (types : List ℕ) (demands : 
       }
 
   pub lacking : (index : Index) (words : List ℕ) → load file ≡ accepted index → None ≡ slice_get index.questions number → words ≡ replicate record_words 0
-      → ExactAnswered file number line_number types demands out words types demands out (LineAnswer.FileRefused refusal_link 0)
+      → ExactAnswered file number line_number types demands out words types demands out (LineNumbers.FileRefused refusal_link 0)
   unfolding answer ask_loaded answer_of answer_out written_of
   lacking index words loaded lacks zero =
       let reply : answer file number line_number ≡ Reply.file_refused refusal_link 0 =
@@ -101,7 +108,7 @@ module _ (file : Text) (number line_number : ℕ) (types : List ℕ) (demands : 
       (has_question : slice_get (index_of file words).questions number ≡ Some question) (types' : List ℕ) (demands' : List (List ℕ)) (out' : List ℕ) where
     -- past the last line
     pub past_reply : None ≡ slice_get (question_asked (index_of file words) question) line_number → types' ≡ zero_types → demands' ≡ zero_places
-        → ExactAnswered file number line_number types demands out words types' demands' out LineAnswer.PastLast
+        → ExactAnswered file number line_number types demands out words types' demands' out LineNumbers.PastLast
     unfolding answer_of answer_out written_of line_at
     past_reply is types_zero demands_zero =
         let reply : answer file number line_number ≡ Reply.past_last =
@@ -123,14 +130,14 @@ module _ (file : Text) (number line_number : ℕ) (types : List ℕ) (demands : 
           question_answered file number (index_of file words) question loaded has_question line_number
           ∙ ap (λ o. let_some o Reply.past_last Reply.the_line) (there v has).is_line
 
-      pub typed_reply : (n : ℕ) → AskedAnswered file (index_of file words) about out types' demands' out' (Tried.Line n)
-          → ExactAnswered file number line_number types demands out words types' demands' out' (LineAnswer.Line n)
+      pub typed_reply : (n : ℕ) → AskedAnswered file (index_of file words) about out types' demands' out' (Ok n)
+          → ExactAnswered file number line_number types demands out words types' demands' out' (LineNumbers.Line n)
       unfolding answer_of answer_out written_of line_text
       typed_reply n all =
           let reply = reply_as all.v all.has in
           record {
             is =
-                ap LineAnswer.Line all.is.put.long
+                ap LineNumbers.Line all.is.put.long
                 ∙ sym (answering_is (length (line_with (asked_lead about) all.v)) all.v all.is.answering)
                 ∙ ap (λ t. verdict_answer (length t) all.v) (sym (answering_out about all.v all.is.answering))
                 ∙ sym (ap answer_of reply);
@@ -141,11 +148,11 @@ module _ (file : Text) (number line_number : ℕ) (types : List ℕ) (demands : 
             leaves = record { records_are = loaded; there = there all.v all.has; types_are = all.types_are; demands_are = all.demands_are };
           }
 
-      pub refused_reply : (refusal : ℕ) → AskedAnswered file (index_of file words) about out types' demands' out' (Tried.Refused refusal)
-          → ExactAnswered file number line_number types demands out words types' demands' out' (LineAnswer.Refused refusal 0)
+      pub refused_reply : (refusal : Refusal) → AskedAnswered file (index_of file words) about out types' demands' out' (Err (LineError.Refused refusal))
+          → ExactAnswered file number line_number types demands out words types' demands' out' (LineNumbers.Refused (refusal_number refusal) 0)
       unfolding answer_of verdict_answer answer_out written_of written
       refused_reply refusal all =
-          let reply = reply_as (Verdict.refused refusal) (all.has ∙ ap Some all.is.is) in
+          let reply = reply_as (Verdict.refused (refusal_number refusal)) (all.has ∙ ap Some all.is.is) in
           record {
             is = sym (ap answer_of reply);
             out_is = all.is.same ∙ sym (ap (λ r. answer_out r out) reply);
@@ -153,7 +160,7 @@ module _ (file : Text) (number line_number : ℕ) (types : List ℕ) (demands : 
           }
 
       -- every line fits
-      pub room : answer_bytes ≤ length out → AskedAnswered file (index_of file words) about out types' demands' out' Tried.NoRoom → ⊥
+      pub room : answer_bytes ≤ length out → AskedAnswered file (index_of file words) about out types' demands' out' (Err LineError.NoRoom) → ⊥
       unfolding line_text
       room enough all =
           omega (arith, line_fits file (index_of file words) number question loaded has_question line_number (there all.v all.has).line (there all.v all.has).is_line, all.is.short)
@@ -162,7 +169,7 @@ module _ (file : Text) (number line_number : ℕ) (types : List ℕ) (demands : 
 
 module _ (file : Text) (from start : ℕ) (types : List ℕ) (demands : List (List ℕ)) (out : List ℕ) where
   pub refused_lines : (refusal line : ℕ) (words : List ℕ) → load file ≡ refused refusal line → words ≡ replicate record_words 0
-      → ExactAnsweredFrom file from start types demands out words types demands out (LinesAnswer.FileRefused refusal line)
+      → ExactAnsweredFrom file from start types demands out words types demands out (LinesNumbers.FileRefused refusal line)
   unfolding lines_from lines_in answers_of lines_out
   refused_lines refusal line words is_refused zero =
       let lines : lines_from file from start ≡ Lines.file_refused refusal line = ap (λ l. lines_in l from start) is_refused in
@@ -173,7 +180,7 @@ module _ (file : Text) (from start : ℕ) (types : List ℕ) (demands : List (Li
       }
 
   pub past : (index : Index) (words : List ℕ) → load file ≡ accepted index → length index.questions < from → words ≡ replicate record_words 0
-      → ExactAnsweredFrom file from start types demands out words types demands out (LinesAnswer.FileRefused refusal_link 0)
+      → ExactAnsweredFrom file from start types demands out words types demands out (LinesNumbers.FileRefused refusal_link 0)
   unfolding lines_from lines_in answers_of lines_out
   past index words loaded over zero =
       let lines : lines_from file from start ≡ Lines.file_refused refusal_link 0 =
@@ -194,12 +201,12 @@ module _ (file : Text) (from start : ℕ) (types : List ℕ) (demands : List (Li
         ∙ ap (λ b. if b then fill [] (pieces_at (index_of file words) from start) else Lines.file_refused refusal_link 0)
         (le-leb from (length (index_of file words).questions) below)
 
-    lines_leave : (r : LinesAnswer) → LinesLeave file (index_of file words) types demands types' demands' r → LeavesFrom file types demands words types' demands' r
-    lines_leave (LinesAnswer.More next line n) left = record { records_are = loaded; leaves = left }
-    lines_leave (LinesAnswer.End n) left = record { records_are = loaded; leaves = left }
-    lines_leave (LinesAnswer.FileRefused refusal line) left = absurd left
+    lines_leave : (r : LinesNumbers) → LinesLeave file (index_of file words) types demands types' demands' r → LeavesFrom file types demands words types' demands' r
+    lines_leave (LinesNumbers.More next line n) left = record { records_are = loaded; leaves = left }
+    lines_leave (LinesNumbers.End n) left = record { records_are = loaded; leaves = left }
+    lines_leave (LinesNumbers.FileRefused refusal line) left = absurd left
 
-    pub lines_reply : (r : LinesAnswer) → LinesWritten file (index_of file words) from start types out demands types' demands' out' r
+    pub lines_reply : (r : LinesNumbers) → LinesWritten file (index_of file words) from start types out demands types' demands' out' r
         → ExactAnsweredFrom file from start types demands out words types' demands' out' r
     lines_reply r all =
         record {
@@ -246,7 +253,7 @@ module _ (records types : List ℕ) (demands : List (List ℕ)) (words' types' :
       (subst (λ t. P words' t (take max_open_demands after.demands)) (sym (front_of type_words types' types types_long))
       (subst (P words' types') (sym (front_of max_open_demands demands' demands places_long)) p))
 
-  pub answered : (file : Text) (number line : ℕ) (r : LineAnswer)
+  pub answered : (file : Text) (number line : ℕ) (r : LineNumbers)
       → ExactAnswered file number line (take type_words types) (take max_open_demands demands) out words' types' demands' out' r → Answered file number line before after r
   answered file number line r exact =
       record {
@@ -280,7 +287,7 @@ module _ (records types : List ℕ) (demands : List (List ℕ)) (words' types' :
   abbrev all_out : List ℕ
   all_out = part' ++ drop answer_bytes out
 
-  pub answered_from : (file : Text) (from line : ℕ) (r : LinesAnswer)
+  pub answered_from : (file : Text) (from line : ℕ) (r : LinesNumbers)
       → ExactAnsweredFrom file from line (take type_words types) (take max_open_demands demands) (take answer_bytes out) words' types' demands' part' r
       → AnsweredFrom file from line (before records types demands words' types' demands' words_long types_long places_long out all_out)
       (after records types demands words' types' demands' words_long types_long places_long out all_out) r

@@ -18,8 +18,8 @@ use Rattle.model.proofs.Tests.{none≢some, some-injective}
 use Rattle.resolution.specs.Answer.{Line, line_text, question_lines}
 use Rattle.line_text.specs.Lines.{put_first}
 use Rattle.answers.specs.Meaning.{Piece, pieces_of, pieces_behind, pieces_at, Lines, fill, answers_of, lines_out}
+use Rattle.answers.specs.Numbers.{LinesNumbers}
 use Rattle.answers.specs.Steps.{LineThere, After, LineStep, NoRoomStep, PastStep, LinesWritten}
-use Rattle.answers.specs.declared.LinesAnswer.{LinesAnswer}
 use Rattle.answers.proofs.AskedLines.{below_length}
 use Rattle.line_text.proofs.Lines.{line_some}
 
@@ -124,17 +124,17 @@ module _ (file : Text) (index : Index) (from start : ℕ) (types₀ : List ℕ) 
   module _ (types : List ℕ) (demands : List (List ℕ)) (out : List ℕ) (next line at : ℕ)
       (state : Filling file index from start types₀ demands₀ out₀ types demands out next line at) where
     -- no question is left
-    pub filled_end : length index.questions ≤ next → LinesWritten file index from start types₀ out₀ demands₀ types demands out (LinesAnswer.End at)
+    pub filled_end : length index.questions ≤ next → LinesWritten file index from start types₀ out₀ demands₀ types demands out (LinesNumbers.End at)
     unfolding fill answers_of lines_out
     filled_end all =
         let none_left = pieces_end index next line all in
         let done : fill state.text (pieces_at index next line) ≡ Lines.end state.text = ap (fill state.text) none_left in
         record {
-          is = ap LinesAnswer.End (sym state.text_long) ∙ sym (ap answers_of (sym state.rest ∙ done));
+          is = ap LinesNumbers.End (sym state.text_long) ∙ sym (ap answers_of (sym state.rest ∙ done));
           bytes = state.bytes ∙ sym (ap (λ l. lines_out l out₀) (sym state.rest ∙ done));
           leaves =
               record {
-                None = state.none_yet;
+                none = state.none_yet;
                 last =
                     λ h.
                     let before = state.last h in
@@ -151,7 +151,7 @@ module _ (file : Text) (index : Index) (from start : ℕ) (types₀ : List ℕ) 
 
       -- the line has no room
       pub filled_more : NoRoomStep index next line (mid_of at (length out - at) out) types' demands' part'
-          → LinesWritten file index from start types₀ out₀ demands₀ types' demands' (put_mid at (length out - at) out part') (LinesAnswer.More next line at)
+          → LinesWritten file index from start types₀ out₀ demands₀ types' demands' (put_mid at (length out - at) out part') (LinesNumbers.More next line at)
       unfolding answers_of lines_out
       filled_more step =
           let stops : fill state.text (pieces_at index next line) ≡ Lines.more next line state.text =
@@ -159,7 +159,7 @@ module _ (file : Text) (index : Index) (from start : ℕ) (types₀ : List ℕ) 
           ∙ fill_stop state.text (piece_of next line step.there.line) (pieces_at index next (suc line))
           (omega (arith, length-append state.text (line_text step.there.line), step.not_put.short, part_long, state.text_long, state.few)) in
           record {
-            is = ap (LinesAnswer.More next line) (sym state.text_long) ∙ sym (ap answers_of (sym state.rest ∙ stops));
+            is = ap (LinesNumbers.More next line) (sym state.text_long) ∙ sym (ap answers_of (sym state.rest ∙ stops));
             bytes =
                 ap (put_mid at (length out - at) out) step.not_put.same ∙ put_same at (length out - at) out
                 ∙ state.bytes ∙ sym (ap (λ l. lines_out l out₀) (sym state.rest ∙ stops));

@@ -18,10 +18,10 @@ use Rattle.resolution.specs.Answer.{Verdict, Line, line_text, line_written, ques
 use Rattle.resolution.specs.Resolve.{Reply, written_of, answer}
 use Rattle.resolution.proofs.Secrecy.{question_answered, reply_line, bodies_are_hidden}
 use Rattle.answers.specs.Meaning.{verdict_answer, answer_of, answer_out, Piece, pieces_at}
+use Rattle.answers.specs.Numbers.{LinesNumbers}
 use Rattle.answers.specs.Steps.{LineThere}
 use Rattle.answers.specs.Promises.{Buffers, AnsweredFrom}
 use Rattle.answers.specs.Whole.{printed_pieces, LinesOf, bytes_of, AnswersAlike, Prints, bytes_written, Writes, CarriedOver, AnswersHideBodies, AnswersDemandThree}
-use Rattle.answers.specs.declared.LinesAnswer.{LinesAnswer}
 use Rattle.answers.proofs.AskedLines.{below_length}
 use Rattle.answers.proofs.Filling.{piece_of, pieces_line, pieces_end}
 use Rattle.answers.proofs.Pieces.{same_head, same_tail, printed_append, all_printed, First, among, reach}
@@ -116,7 +116,7 @@ module _ (file : Text) (index : Index) (loaded : load file ≡ accepted index) (
       ap line_text (some-injective (sym there.is_line ∙ ap₂ (λ x k. slice_get (question_lines index x) k) same_question at_line ∙ here.is_line))
 
   -- its bytes in a call that has written it
-  writes_in : (from start : ℕ) (before after : Buffers) (r : LinesAnswer) → AnsweredFrom file from start before after r
+  writes_in : (from start : ℕ) (before after : Buffers) (r : LinesNumbers) → AnsweredFrom file from start before after r
       → (ahead : List Piece) (piece : Piece) (behind : List Piece) → pieces_at index from start ≡ ahead ++ (piece ∷ behind) → piece.question ≡ place → piece.line ≡ line_number
       → length (printed_pieces ahead) + length (line_text line) ≤ bytes_written r
       → take (length (line_text line)) (drop (length (printed_pieces ahead)) after.out) ≡ line_text line
@@ -136,20 +136,20 @@ module _ (file : Text) (index : Index) (loaded : load file ≡ accepted index) (
       Found : Text → Type 0
       Found out = take (length (line_text line)) (drop (length (printed_pieces ahead)) out) ≡ line_text line
 
-      by_answer : (r : LinesAnswer) → LinesOf index from start before after r → length (printed_pieces ahead) + length (line_text line) ≤ bytes_written r → Found after.out
-      by_answer (LinesAnswer.More next next_line n) stops fits =
+      by_answer : (r : LinesNumbers) → LinesOf index from start before after r → length (printed_pieces ahead) + length (line_text line) ≤ bytes_written r → Found after.out
+      by_answer (LinesNumbers.More next next_line n) stops fits =
           subst Found (sym stops.out)
           (part_within (printed_pieces ahead) (line_text line) (printed_pieces behind) (printed_pieces stops.done) (printed_pieces (pieces_at index next next_line))
           (drop (length (printed_pieces stops.done)) before.out)
           (sym (printed_append stops.done (pieces_at index next next_line)) ∙ ap printed_pieces (sym stops.is) ∙ all)
           (omega (arith, fits, stops.bytes)))
-      by_answer (LinesAnswer.End n) (bytes, out) fits =
+      by_answer (LinesNumbers.End n) (bytes, out) fits =
           subst Found (sym out)
           (part_within (printed_pieces ahead) (line_text line) (printed_pieces behind) (printed_pieces (pieces_at index from start)) []
           (drop (length (printed_pieces (pieces_at index from start))) before.out)
           (append-nil (printed_pieces (pieces_at index from start)) ∙ all)
           (omega (arith, fits, bytes)))
-      by_answer (LinesAnswer.FileRefused refusal at) never fits = absurd never
+      by_answer (LinesNumbers.FileRefused refusal at) never fits = absurd never
 
       -- there are lines from there on, so the file has that question
       by_count : (b : Bool) → ltb from (length index.questions) ≡ b → Found after.out

@@ -21,10 +21,10 @@ use Rattle.resolution.proofs.LineFits.{line_fits}
 use Rattle.resolution.proofs.Secrecy.{question_answered}
 use Rattle.line_text.specs.Lines.{put_first}
 use Rattle.answers.specs.Meaning.{answer_of, answer_out, Piece, pieces_at, Lines, fill, lines_in, lines_from, answers_of, lines_out}
+use Rattle.answers.specs.Numbers.{LinesNumbers}
 use Rattle.answers.specs.Steps.{LineThere}
 use Rattle.answers.specs.Promises.{Buffers}
 use Rattle.answers.specs.Whole.{LineOr, AnswersTheLine, printed_pieces, Stops, LinesOf, AnswersTheLines, Calls, CallsResolve, CallsEnd, left_in, lines_left}
-use Rattle.answers.specs.declared.LinesAnswer.{LinesAnswer}
 use Rattle.answers.proofs.AskedLines.{below_length}
 use Rattle.answers.proofs.Filling.{piece_of, pieces_line, fill_on}
 use Rattle.answers.proofs.Pieces.{printed_append, all_printed, Stopped, FillIs, fill_is}
@@ -114,7 +114,7 @@ unfolding answers_of lines_out
 answers_the_lines file from line before after r promised index loaded below =
     at (lines_from file from line) refl r promised.first.is promised.first.out_is
   where
-    at : (lines : Lines) → lines_from file from line ≡ lines → (r : LinesAnswer) → r ≡ answers_of lines → after.out ≡ lines_out lines before.out → LinesOf index from line before after r
+    at : (lines : Lines) → lines_from file from line ≡ lines → (r : LinesNumbers) → r ≡ answers_of lines → after.out ≡ lines_out lines before.out → LinesOf index from line before after r
     at (Lines.end text) e r is out =
         let same = to_the_end file index loaded from line below text e in
         subst (LinesOf index from line before after) (sym is) (ap length same, out ∙ ap (λ t. put_first t before.out) same)

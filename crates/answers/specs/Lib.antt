@@ -1,4 +1,5 @@
 -- What the public entries answer, and what they promise. Definitions only.
+pub mod Numbers
 pub mod Meaning
 pub mod Steps
 pub mod Promises

@@ -10,22 +10,21 @@ use Rattle.format.specs.Load.{Loading, load}
 use Rattle.resolution.specs.Answer.{Verdict, Line, line_text, line_written, question_lines}
 use Rattle.resolution.specs.Resolve.{Reply, written_of}
 use Rattle.line_text.specs.Lines.{put_first}
-use Rattle.answers.specs.declared.LineAnswer.{LineAnswer}
-use Rattle.answers.specs.declared.LinesAnswer.{LinesAnswer}
+use Rattle.answers.specs.Numbers.{LineNumbers, LinesNumbers}
 
 -- ------------------------------------------------------------------ one line
 
 -- a line or a refusal, with how many bytes the answer buffer holds for it from its start
-unfoldable pub verdict_answer : ℕ → Verdict → LineAnswer
-verdict_answer bytes (Verdict.typed text) = LineAnswer.Line bytes
-verdict_answer bytes (Verdict.worded word) = LineAnswer.Line bytes
-verdict_answer bytes (Verdict.refused number) = LineAnswer.Refused number bytes
+unfoldable pub verdict_answer : ℕ → Verdict → LineNumbers
+verdict_answer bytes (Verdict.typed text) = LineNumbers.Line bytes
+verdict_answer bytes (Verdict.worded word) = LineNumbers.Line bytes
+verdict_answer bytes (Verdict.refused number) = LineNumbers.Refused number bytes
 
 -- a line or a refusal from 6 to 10; that the question has no such line; or a refusal from 1 to 5 with its line
-unfoldable pub answer_of : Reply → LineAnswer
+unfoldable pub answer_of : Reply → LineNumbers
 answer_of (Reply.the_line line) = verdict_answer (length (line_written line)) line.verdict
-answer_of Reply.past_last = LineAnswer.PastLast
-answer_of (Reply.file_refused number at_line) = LineAnswer.FileRefused number at_line
+answer_of Reply.past_last = LineNumbers.PastLast
+answer_of (Reply.file_refused number at_line) = LineNumbers.FileRefused number at_line
 
 -- "Answer bytes behind the line stay"; after a refusal "the answer buffer is unchanged", and so it is past the last line
 unfoldable pub answer_out : Reply → Text → Text
@@ -80,10 +79,10 @@ lines_in (Loading.refused number at_line) from line = Lines.file_refused number 
 unfoldable pub lines_from : Text → ℕ → ℕ → Lines
 lines_from file from line = lines_in (load file) from line
 
-unfoldable pub answers_of : Lines → LinesAnswer
-answers_of (Lines.end text) = LinesAnswer.End (length text)
-answers_of (Lines.more number line text) = LinesAnswer.More number line (length text)
-answers_of (Lines.file_refused number at_line) = LinesAnswer.FileRefused number at_line
+unfoldable pub answers_of : Lines → LinesNumbers
+answers_of (Lines.end text) = LinesNumbers.End (length text)
+answers_of (Lines.more number line text) = LinesNumbers.More number line (length text)
+answers_of (Lines.file_refused number at_line) = LinesNumbers.FileRefused number at_line
 
 unfoldable pub lines_out : Lines → Text → Text
 lines_out (Lines.end text) out = put_first text out

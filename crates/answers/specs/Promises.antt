@@ -7,9 +7,8 @@ use Rattle.format.specs.Load.{accepted, load}
 use Rattle.records.specs.Layout.{index_of}
 use Rattle.resolution.specs.Resolve.{answer}
 use Rattle.answers.specs.Meaning.{answer_of, answer_out, lines_from, answers_of, lines_out}
+use Rattle.answers.specs.Numbers.{LineNumbers, LinesNumbers}
 use Rattle.answers.specs.Steps.{Long, zero_types, zero_places, TypesHold, LineThere, LinesLeave}
-use Rattle.answers.specs.declared.LineAnswer.{LineAnswer}
-use Rattle.answers.specs.declared.LinesAnswer.{LinesAnswer}
 
 -- ------------------------------------------------------------------ the words and places that document 01 counts
 
@@ -36,32 +35,32 @@ pub record FileRefusedLeaves (types : List ℕ) (demands : List (List ℕ)) (wor
   pub types_same : types' ≡ types
   pub demands_same : demands' ≡ demands
 
-abbrev pub Leaves : Text → ℕ → ℕ → List ℕ → List (List ℕ) → List ℕ → List ℕ → List (List ℕ) → LineAnswer → Type 0
-Leaves file number line types demands words types' demands' (LineAnswer.Line n) = LineLeaves file number line words types' demands'
-Leaves file number line types demands words types' demands' (LineAnswer.Refused refusal bytes) = NoLineLeaves file words types' demands'
-Leaves file number line types demands words types' demands' LineAnswer.PastLast = NoLineLeaves file words types' demands'
-Leaves file number line types demands words types' demands' (LineAnswer.FileRefused refusal at_line) = FileRefusedLeaves types demands words types' demands'
+abbrev pub Leaves : Text → ℕ → ℕ → List ℕ → List (List ℕ) → List ℕ → List ℕ → List (List ℕ) → LineNumbers → Type 0
+Leaves file number line types demands words types' demands' (LineNumbers.Line n) = LineLeaves file number line words types' demands'
+Leaves file number line types demands words types' demands' (LineNumbers.Refused refusal bytes) = NoLineLeaves file words types' demands'
+Leaves file number line types demands words types' demands' LineNumbers.PastLast = NoLineLeaves file words types' demands'
+Leaves file number line types demands words types' demands' (LineNumbers.FileRefused refusal at_line) = FileRefusedLeaves types demands words types' demands'
 
 -- the answer and the answer bytes are the definition's
 pub record ExactAnswered (file : Text) (number line : ℕ) (types : List ℕ) (demands : List (List ℕ)) (out words types' : List ℕ)
-    (demands' : List (List ℕ)) (out' : List ℕ) (r : LineAnswer) : Type 0 where
+    (demands' : List (List ℕ)) (out' : List ℕ) (r : LineNumbers) : Type 0 where
   pub is : r ≡ answer_of (answer file number line)
   pub out_is : out' ≡ answer_out (answer file number line) out
   pub leaves : Leaves file number line types demands words types' demands' r
 
 -- the lines of an accepted file that has the first question, or has just so many before it
-pub record LinesLeft (file : Text) (types : List ℕ) (demands : List (List ℕ)) (words types' : List ℕ) (demands' : List (List ℕ)) (r : LinesAnswer) : Type 0 where
+pub record LinesLeft (file : Text) (types : List ℕ) (demands : List (List ℕ)) (words types' : List ℕ) (demands' : List (List ℕ)) (r : LinesNumbers) : Type 0 where
   pub records_are : RecordsHold file words
   pub leaves : LinesLeave file (index_of file words) types demands types' demands' r
 
-abbrev pub LeavesFrom : Text → List ℕ → List (List ℕ) → List ℕ → List ℕ → List (List ℕ) → LinesAnswer → Type 0
-LeavesFrom file types demands words types' demands' (LinesAnswer.More next line bytes) = LinesLeft file types demands words types' demands' (LinesAnswer.More next line bytes)
-LeavesFrom file types demands words types' demands' (LinesAnswer.End bytes) = LinesLeft file types demands words types' demands' (LinesAnswer.End bytes)
-LeavesFrom file types demands words types' demands' (LinesAnswer.FileRefused number at_line) = FileRefusedLeaves types demands words types' demands'
+abbrev pub LeavesFrom : Text → List ℕ → List (List ℕ) → List ℕ → List ℕ → List (List ℕ) → LinesNumbers → Type 0
+LeavesFrom file types demands words types' demands' (LinesNumbers.More next line bytes) = LinesLeft file types demands words types' demands' (LinesNumbers.More next line bytes)
+LeavesFrom file types demands words types' demands' (LinesNumbers.End bytes) = LinesLeft file types demands words types' demands' (LinesNumbers.End bytes)
+LeavesFrom file types demands words types' demands' (LinesNumbers.FileRefused number at_line) = FileRefusedLeaves types demands words types' demands'
 
 -- the numbers and the answer bytes are those of the definition's lines that fit
 pub record ExactAnsweredFrom (file : Text) (from line : ℕ) (types : List ℕ) (demands : List (List ℕ)) (out words types' : List ℕ)
-    (demands' : List (List ℕ)) (out' : List ℕ) (r : LinesAnswer) : Type 0 where
+    (demands' : List (List ℕ)) (out' : List ℕ) (r : LinesNumbers) : Type 0 where
   pub is : r ≡ answers_of (lines_from file from line)
   pub out_is : out' ≡ lines_out (lines_from file from line) out
   pub leaves : LeavesFrom file types demands words types' demands' r
@@ -89,21 +88,21 @@ pub record Behind (before after : Buffers) : Type 0 where
   pub demands_behind : drop max_open_demands after.demands ≡ drop max_open_demands before.demands
 
 -- the answer and all answer bytes are the definition's, the first words and places are as they should be, and those behind them stay
-pub record Answered (file : Text) (number line : ℕ) (before after : Buffers) (r : LineAnswer) : Type 0 where
+pub record Answered (file : Text) (number line : ℕ) (before after : Buffers) (r : LineNumbers) : Type 0 where
   pub first : ExactAnswered file number line (take type_words before.types) (take max_open_demands before.demands) before.out
       (take record_words after.records) (take type_words after.types) (take max_open_demands after.demands) after.out r
   pub behind : Behind before after
 
-pub record AnsweredFrom (file : Text) (from line : ℕ) (before after : Buffers) (r : LinesAnswer) : Type 0 where
+pub record AnsweredFrom (file : Text) (from line : ℕ) (before after : Buffers) (r : LinesNumbers) : Type 0 where
   pub first : ExactAnsweredFrom file from line (take type_words before.types) (take max_open_demands before.demands) before.out
       (take record_words after.records) (take type_words after.types) (take max_open_demands after.demands) after.out r
   pub behind : Behind before after
 
 -- 1: "a buffer shorter than above; all buffers unchanged"
-pub record ShortAnswer (before after : Buffers) (r : LineAnswer) : Type 0 where
-  pub is : r ≡ LineAnswer.FileRefused refusal_buffer 0
+pub record ShortAnswer (before after : Buffers) (r : LineNumbers) : Type 0 where
+  pub is : r ≡ LineNumbers.FileRefused refusal_buffer 0
   pub same : after ≡ before
 
-pub record ShortAnswers (before after : Buffers) (r : LinesAnswer) : Type 0 where
-  pub is : r ≡ LinesAnswer.FileRefused refusal_buffer 0
+pub record ShortAnswers (before after : Buffers) (r : LinesNumbers) : Type 0 where
+  pub is : r ≡ LinesNumbers.FileRefused refusal_buffer 0
   pub same : after ≡ before

@@ -1,7 +1,7 @@
 -- What the functions below the public entries ask and promise. The record words are exactly those of a loaded file; the type words and the
 -- places for open demands are exactly as many as document 01 says. Definitions only; assumes nothing.
 use Rattle.std.specs.Prelude.{ℕ, suc, ◌≤◌, ◌<◌, ◌≡◌, Bool, true, false, List, [], length, replicate}
-use Rattle.std.specs.Prelude.{None, Some}
+use Rattle.std.specs.Prelude.{None, Some, Result, Ok, Err}
 use Rattle.std.specs.Prelude.{slice_get}
 use Rattle.model.specs.Common.{Text}
 use Rattle.model.specs.Records.{Question, Index}
@@ -16,9 +16,9 @@ use Rattle.type_table.specs.Layout.{table_of}
 use Rattle.demands.specs.Meaning.{zero_place}
 use Rattle.line_text.specs.Lines.{LinePut, NotPut, TriedIs}
 use Rattle.answers.specs.Meaning.{pieces_at, fill, answers_of, lines_out}
-use Rattle.line_text.specs.declared.Tried.{Tried}
+use Rattle.answers.specs.Numbers.{LinesNumbers}
+use Rattle.line_text.specs.declared.LineError.{LineError}
 use Rattle.answers.specs.declared.Step.{Step}
-use Rattle.answers.specs.declared.LinesAnswer.{LinesAnswer}
 
 -- ------------------------------------------------------------------ what is required
 
@@ -67,22 +67,20 @@ pub record TypesHold (file : Text) (index : Index) (asked : Asked) (types : List
   pub is : resolve_asked index asked ≡ answered said (table_of file types)
 
 -- a line was written, or the words are all zero
-abbrev pub TypesKept : List ℕ → List ℕ → Tried → Type 0
-TypesKept types types' (Tried.Line n) = types' ≡ types
-TypesKept types types' (Tried.Refused number) = types' ≡ zero_types
-TypesKept types types' Tried.NoRoom = types' ≡ zero_types
+abbrev pub TypesKept : List ℕ → List ℕ → Result ℕ LineError → Type 0
+TypesKept types types' (Ok n) = types' ≡ types
+TypesKept types types' (Err error) = types' ≡ zero_types
 
-pub record SaidAnswered (lead : Text) (v : Verdict) (types out types' out' : List ℕ) (r : Tried) : Type 0 where
+pub record SaidAnswered (lead : Text) (v : Verdict) (types out types' out' : List ℕ) (r : Result ℕ LineError) : Type 0 where
   pub is : TriedIs lead v out out' r
   pub types_are : TypesKept types types' r
 
-abbrev pub TypesAre : Text → Index → Asked → List ℕ → Tried → Type 0
-TypesAre file index asked types (Tried.Line n) = TypesHold file index asked types
-TypesAre file index asked types (Tried.Refused number) = types ≡ zero_types
-TypesAre file index asked types Tried.NoRoom = types ≡ zero_types
+abbrev pub TypesAre : Text → Index → Asked → List ℕ → Result ℕ LineError → Type 0
+TypesAre file index asked types (Ok n) = TypesHold file index asked types
+TypesAre file index asked types (Err error) = types ≡ zero_types
 
 pub record AskedAnswered (file : Text) (index : Index) (asked : Asked) (out types' : List ℕ) (demands' : List (List ℕ))
-    (out' : List ℕ) (r : Tried) : Type 0 where
+    (out' : List ℕ) (r : Result ℕ LineError) : Type 0 where
   pub v : Verdict
   pub has : verdict index asked ≡ Some v
   pub is : TriedIs (asked_lead asked) v out out' r
@@ -145,17 +143,17 @@ pub record LastLine (file : Text) (index : Index) (types : List ℕ) (demands : 
 -- as they were where no line was written; else as after the last one
 pub record AfterLast (file : Text) (index : Index) (bytes : ℕ) (types : List ℕ) (demands : List (List ℕ)) (types' : List ℕ)
     (demands' : List (List ℕ)) : Type 0 where
-  pub None : bytes ≡ 0 → (types' ≡ types) × (demands' ≡ demands)
+  pub none : bytes ≡ 0 → (types' ≡ types) × (demands' ≡ demands)
   pub last : 0 < bytes → LastLine file index types' demands'
 
 -- `More`: the next line was tried, and did not fit. The file is accepted
-abbrev pub LinesLeave : Text → Index → List ℕ → List (List ℕ) → List ℕ → List (List ℕ) → LinesAnswer → Type 0
-LinesLeave file index types demands types' demands' (LinesAnswer.More number line bytes) = (types' ≡ zero_types) × (demands' ≡ zero_places)
-LinesLeave file index types demands types' demands' (LinesAnswer.End bytes) = AfterLast file index bytes types demands types' demands'
-LinesLeave file index types demands types' demands' (LinesAnswer.FileRefused number at_line) = ⊥
+abbrev pub LinesLeave : Text → Index → List ℕ → List (List ℕ) → List ℕ → List (List ℕ) → LinesNumbers → Type 0
+LinesLeave file index types demands types' demands' (LinesNumbers.More number line bytes) = (types' ≡ zero_types) × (demands' ≡ zero_places)
+LinesLeave file index types demands types' demands' (LinesNumbers.End bytes) = AfterLast file index bytes types demands types' demands'
+LinesLeave file index types demands types' demands' (LinesNumbers.FileRefused number at_line) = ⊥
 
 pub record LinesWritten (file : Text) (index : Index) (from line : ℕ) (types out : List ℕ) (demands : List (List ℕ)) (types' : List ℕ)
-    (demands' : List (List ℕ)) (out' : List ℕ) (r : LinesAnswer) : Type 0 where
+    (demands' : List (List ℕ)) (out' : List ℕ) (r : LinesNumbers) : Type 0 where
   pub is : r ≡ answers_of (fill [] (pieces_at index from line))
   pub bytes : out' ≡ lines_out (fill [] (pieces_at index from line)) out
   pub leaves : LinesLeave file index types demands types' demands' r

@@ -12,24 +12,23 @@ use Rattle.resolution.specs.Resolve.{Reply, refusal_line, resolve, answer}
 use Rattle.resolution.specs.Secrecy.{FilesSupposed, FilesSupposedAsWorded, LineAbout}
 use Rattle.line_text.specs.Lines.{put_first}
 use Rattle.answers.specs.Meaning.{verdict_answer, Piece, piece_text, pieces_at, Lines, lines_from}
+use Rattle.answers.specs.Numbers.{LineNumbers, LinesNumbers}
 use Rattle.answers.specs.Steps.{LineThere}
 use Rattle.answers.specs.Promises.{Buffers, Answered, AnsweredFrom}
-use Rattle.answers.specs.declared.LineAnswer.{LineAnswer}
-use Rattle.answers.specs.declared.LinesAnswer.{LinesAnswer}
 
 -- ------------------------------------------------------------------ one line
 
 -- the definition's line at the start of the answer bytes, or the definition's refusal, for which nothing is written (`line_written`); or that there is no such
 -- line, and the answer bytes as they were
-abbrev pub LineOr : Option Line → Buffers → Buffers → LineAnswer → Type 0
+abbrev pub LineOr : Option Line → Buffers → Buffers → LineNumbers → Type 0
 LineOr (Some line) before after r =
     (r ≡ verdict_answer (length (line_written line)) line.verdict) × (after.out ≡ put_first (line_written line) before.out)
-LineOr None before after r = (r ≡ LineAnswer.PastLast) × (after.out ≡ before.out)
+LineOr None before after r = (r ≡ LineNumbers.PastLast) × (after.out ≡ before.out)
 
 -- for an accepted file and a question that it has
 abbrev pub AnswersTheLine : Type 0
 AnswersTheLine =
-    (file : Text) (number line_number : ℕ) (before after : Buffers) (r : LineAnswer) → Answered file number line_number before after r
+    (file : Text) (number line_number : ℕ) (before after : Buffers) (r : LineNumbers) → Answered file number line_number before after r
     → (index : Index) (question : Question) → load file ≡ accepted index → slice_get index.questions number ≡ Some question
     → LineOr (slice_get (question_lines index question) line_number) before after r
 
@@ -49,16 +48,16 @@ pub record Stops (index : Index) (from line : ℕ) (before after : Buffers) (nex
   pub out : after.out ≡ put_first (printed_pieces done) before.out
 
 -- what one call leaves: the lines from the first up to the next, at least one, or up to the last
-abbrev pub LinesOf : Index → ℕ → ℕ → Buffers → Buffers → LinesAnswer → Type 0
-LinesOf index from line before after (LinesAnswer.More next next_line n) = Stops index from line before after next next_line n
-LinesOf index from line before after (LinesAnswer.End n) =
+abbrev pub LinesOf : Index → ℕ → ℕ → Buffers → Buffers → LinesNumbers → Type 0
+LinesOf index from line before after (LinesNumbers.More next next_line n) = Stops index from line before after next next_line n
+LinesOf index from line before after (LinesNumbers.End n) =
     (n ≡ length (printed_pieces (pieces_at index from line)))
     × (after.out ≡ put_first (printed_pieces (pieces_at index from line)) before.out)
-LinesOf index from line before after (LinesAnswer.FileRefused number at_line) = ⊥
+LinesOf index from line before after (LinesNumbers.FileRefused number at_line) = ⊥
 
 abbrev pub AnswersTheLines : Type 0
 AnswersTheLines =
-    (file : Text) (from line : ℕ) (before after : Buffers) (r : LinesAnswer) → AnsweredFrom file from line before after r
+    (file : Text) (from line : ℕ) (before after : Buffers) (r : LinesNumbers) → AnsweredFrom file from line before after r
     → (index : Index) → load file ≡ accepted index → from ≤ length index.questions → LinesOf index from line before after r
 
 -- how many lines are left from a question's line on
@@ -87,20 +86,20 @@ CallsEnd = (file : Text) → Calls file 0 0 (resolve file)
 -- ------------------------------------------------------------------ demand 3
 
 -- how many bytes an answer says stand at the start of the answer buffer
-abbrev pub bytes_of : LineAnswer → ℕ
-bytes_of (LineAnswer.Line n) = n
-bytes_of (LineAnswer.Refused number n) = n
-bytes_of LineAnswer.PastLast = 0
-bytes_of (LineAnswer.FileRefused number at_line) = 0
+abbrev pub bytes_of : LineNumbers → ℕ
+bytes_of (LineNumbers.Line n) = n
+bytes_of (LineNumbers.Refused number n) = n
+bytes_of LineNumbers.PastLast = 0
+bytes_of (LineNumbers.FileRefused number at_line) = 0
 
 -- two calls of `answer` answer alike, and write the same bytes
-pub record SameAnswer (first_after second_after : Buffers) (first second : LineAnswer) : Type 0 where
+pub record SameAnswer (first_after second_after : Buffers) (first second : LineNumbers) : Type 0 where
   pub same : first ≡ second
   pub same_bytes : take (bytes_of first) first_after.out ≡ take (bytes_of first) second_after.out
 
 abbrev pub AnswersAlike : Text → Text → ℕ → ℕ → ℕ → ℕ → Type 0
 AnswersAlike first_file second_file first_place second_place first_line second_line =
-    (first_before first_after second_before second_after : Buffers) (first second : LineAnswer)
+    (first_before first_after second_before second_after : Buffers) (first second : LineNumbers)
     → Answered first_file first_place first_line first_before first_after first
     → Answered second_file second_place second_line second_before second_after second
     → SameAnswer first_after second_after first second
@@ -117,15 +116,15 @@ pub record Prints (file : Text) (place line_number : ℕ) (text : Text) : Type 0
   pub called : (all : Text) → Calls file 0 0 all → all ≡ printed_pieces before ++ (text ++ printed_pieces behind)
 
 -- how many bytes a call of `answer_from` says that it has written
-abbrev pub bytes_written : LinesAnswer → ℕ
-bytes_written (LinesAnswer.More next line n) = n
-bytes_written (LinesAnswer.End n) = n
-bytes_written (LinesAnswer.FileRefused number at_line) = 0
+abbrev pub bytes_written : LinesNumbers → ℕ
+bytes_written (LinesNumbers.More next line n) = n
+bytes_written (LinesNumbers.End n) = n
+bytes_written (LinesNumbers.FileRefused number at_line) = 0
 
 -- Wherever a call of `answer_from` begins: where the question's line is among those that it has written, behind the lines ahead of it, the bytes there are the text
 abbrev pub Writes : Text → ℕ → ℕ → Text → Type 0
 Writes file place line_number text =
-    (from line : ℕ) (before after : Buffers) (r : LinesAnswer) → AnsweredFrom file from line before after r
+    (from line : ℕ) (before after : Buffers) (r : LinesNumbers) → AnsweredFrom file from line before after r
     → (index : Index) → load file ≡ accepted index
     → (ahead : List Piece) (piece : Piece) (behind : List Piece) → pieces_at index from line ≡ ahead ++ (piece ∷ behind) → piece.question ≡ place → piece.line ≡ line_number
     → length (printed_pieces ahead) + length text ≤ bytes_written r → take (length text) (drop (length (printed_pieces ahead)) after.out) ≡ text

@@ -6,7 +6,7 @@ use Rattle.answers.proofs.answer_lines.Given as goal
 
 abbrev pub invariant-loop-next : goal.invariant-loop-next
 invariant-loop-next l =
-    Filling l.file (index_of l.file l.words) l.from l.start l.initial.types l.initial.demands l.initial.out l.types l.demands l.out l.next l.line l.at
+    Filling l.index.file.now (index_of l.index.file.now l.index.words.now) l.from l.start l.initial.types l.initial.demands l.initial.out l.types l.demands l.out l.next l.line l.at
 
 abbrev pub decreases-loop-next : goal.decreases-loop-next
 decreases-loop-next l = (l.count - l.next) * 1024 + (513 - l.line)

@@ -3,8 +3,5 @@ use Rattle.std.proofs.Common.{◌∙◌}
 use Rattle.answers.proofs.Asking.{types_zero}
 use Rattle.answers.proofs.answer_typed.Goals as goal
 
-pub returns-in-Refused : goal.returns-in-Refused
-returns-in-Refused c = record { is = c.in-Refused.ensures; types_are = c.clear.ensures ∙ types_zero c.args.types.now c.requires.types_len }
-
-pub returns-in-NoRoom : goal.returns-in-NoRoom
-returns-in-NoRoom c = record { is = c.in-NoRoom.ensures; types_are = c.clear-in-NoRoom.ensures ∙ types_zero c.args.types.now c.requires.types_len }
+pub returns-in-Err : goal.returns-in-Err
+returns-in-Err c = record { is = c.in-Err.ensures; types_are = c.clear.ensures ∙ types_zero c.args.types.now c.requires.types_len }
