@@ -7,15 +7,15 @@ use Rattle.std.specs.Prelude.{Option, None, Some}
 use native.Mathlib.Omega.{arith}
 use lib.ListN.{length, take, drop, get_or, length-drop, drop_of_length-le}
 use lib.Seq.{drop-drop}
-use lib.Dec.{leb, ltb}
+use lib.Dec.{leb}
 use borrow.Author.Tests.{le-leb, lt-leb, eq-eqb, ne_eqb, leb-true, leb-false}
 use Rattle.model.specs.Common.{Text, is_empty, eq_numbers}
-use Rattle.model.proofs.Tests.{ltb_lt, ltb-false, eq_numbers_sound}
+use Rattle.model.proofs.Tests.{eq_numbers_sound}
 use Rattle.format.specs.declared.Kind.{Kind}
 use Rattle.format.specs.Fields.{stops, field_of, behind, only_if, is_dash, all_visible, is_name, Value, absent, text, numbered, number_of, name_value, or_dash, value_of, reading}
 use Rattle.records.specs.Layout.{bytes_at}
 use Rattle.records.proofs.Packing.{each_part}
-use Rattle.words.proofs.Bytes.{here, field_stop, field_more, field_out}
+use Rattle.words.proofs.Bytes.{here, field_stop, field_more}
 use Rattle.fields.specs.Held.{may_be_absent, field_as, visible_run}
 use Rattle.fields.proofs.Numbers.{behind_at}
 
@@ -219,13 +219,6 @@ module _ (s : Text) (e : ℕ) where
   -- a field that is `-` has one byte
   pub dash_one : is_dash (field_of (drop e s)) ≡ true → field_of (drop e s) ≡ 45 ∷ []
   dash_one q = eq_numbers_sound (field_of (drop e s)) (45 ∷ []) q
-
-  pub dash_inside : is_dash (field_of (drop e s)) ≡ true → e < length s
-  dash_inside q = by (ltb e (length s)) refl
-    where
-      by : (t : Bool) → ltb e (length s) ≡ t → e < length s
-      by true r = ltb_lt e (length s) r
-      by false r = absurd (false≢true (dash_out (field_out s e (ltb-false e (length s) r)) ∙ q))
 
   -- `-`, and what is left behind it
   behind_dash : (f : Text → Option Value) → is_dash (field_of (drop e s)) ≡ true → field_as f (drop e s) ≡ reading (drop (e + 1) s) (f (field_of (drop e s)))

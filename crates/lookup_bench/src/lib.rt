@@ -10,7 +10,7 @@ ghost use Rattle.model.specs.Lookups.{resolve_name_at_position, definition_for_i
 ghost use Rattle.records.specs.Layout.{bytes_at, index_of};
 ghost use Rattle.lookup_bench.specs.Numbers.{link_number, module_to, in_module, LoadNumber};
 
-use records::{ExpressionId, FileScopeId, Name, RecordNumber};
+use records::{ExpressionId, FileScopeId, Index, Name, RecordNumber};
 
 // 0 for an accepted file, else the refusal's number. The words of the index are the first 16,384 of the buffer.
 #[unsafe(no_mangle)]
@@ -46,7 +46,8 @@ pub extern "C" fn bench_module_by_name(file: &[u8], words: &[u32], start: u32, l
         ≡ link_number (module_by_name (index_of file.now words.now)
         (bytes_at file.now start length)) }
 {
-    link_number(semantic_index::module_by_name(file, words, Name { start, length }))
+    let index = Index { file, words };
+    link_number(semantic_index::module_by_name(&index, Name { start, length }))
 }
 
 #[unsafe(no_mangle)]
@@ -65,9 +66,9 @@ pub extern "C" fn bench_latest_definition_index_by_name_in_chain(
     let Some(n) = module_at(words, m) else {
         return 0;
     };
+    let index = Index { file, words };
     link_number(semantic_index::latest_definition_index_by_name_in_chain(
-        file,
-        words,
+        &index,
         n,
         FileScopeId(s),
         Name { start, length },
@@ -93,9 +94,9 @@ pub extern "C" fn bench_resolve_name_at_position(
     let Some(n) = module_at(words, m) else {
         return 0;
     };
+    let index = Index { file, words };
     link_number(semantic_index::resolve_name_at_position(
-        file,
-        words,
+        &index,
         n,
         Name { start, length },
         FileScopeId(s),

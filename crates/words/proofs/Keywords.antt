@@ -28,18 +28,6 @@ pub word_rest : {A : Type 0} (table : List (Keyword A)) (other : A) (k : ℕ) �
 unfolding word_at
 word_rest table other k h = ap (λ o. let_some o other λ e. e.word) (sym (getElem_none table k h))
 
--- what a `match` on the numbers below n leaves for its last arm
-abbrev pub NoneBelow : ℕ → ℕ → Type 0
-NoneBelow zero k = Unit {0}
-NoneBelow (suc n) k = NoneBelow n k × (k ≡ n → ⊥)
-
-pub none_below : (n k : ℕ) → NoneBelow n k → n ≤ k
-none_below zero k h = omega arith
-none_below (suc n) k h = above n k (none_below n k h.0) h.1
-  where
-    above : (m j : ℕ) → m ≤ j → (j ≡ m → ⊥) → suc m ≤ j
-    above m j le ne = omega arith
-
 -- ------------------------------------------------------------------ the first line
 
 abbrev pub begin : Text → Text
