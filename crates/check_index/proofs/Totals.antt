@@ -2,6 +2,7 @@
 use Prim.Native.Nat.{ℕ, zero, suc, ◌+◌, ◌-◌, ◌≤◌, ◌<◌}
 use mathlib.Core.Path.{◌≡◌, refl, sym, ap, ap₂, subst, ◌∙◌}
 use mathlib.Core.List.{List, [], ◌∷◌, ◌++◌}
+use Rattle.std.specs.Prelude.{Ok, Err}
 use native.Mathlib.Omega.{arith}
 use native.Mathlib.Nat.{zero-add}
 use lib.ListN.{length, take}
@@ -15,8 +16,7 @@ use Rattle.records.specs.Layout.{scope_row, type_expr_row, definition_row, expre
 use Rattle.records.specs.Layout.{scope_rows, type_expr_rows, definition_rows, expression_rows}
 use Rattle.records.proofs.Lists.{each_length, each_unroll, each_ended, each_begun}
 use Rattle.check_index.specs.Line.{counted, counts, row_total, accepted_line, index_counts, line_of, loading_line}
-use Rattle.loader.specs.Load.{loaded_is, ItemsCounted, Filled}
-use Rattle.loader.specs.declared.Loaded.{Loaded}
+use Rattle.loader.specs.Load.{Loaded, loaded_is, ItemsCounted, Filled}
 
 -- ------------------------------------------------------------------ the sum, from module to module
 
@@ -133,5 +133,5 @@ line_is file before words loaded long filled =
     all = take_all record_words words (omega (arith, long))
 
     of : (r : Loaded) → loaded_is file words r ≡ load file → ItemsCounted file words r → line_of r words ≡ loading_line (load file)
-    of Loaded.Accepted e items = accepted_line_is file words (index_of file words) refl items ∙ ap loading_line e
-    of (Loaded.Refused number line) e items = ap loading_line e
+    of (Ok u) e items = accepted_line_is file words (index_of file words) refl items ∙ ap loading_line e
+    of (Err x) e items = ap loading_line e

@@ -1,11 +1,12 @@
 -- The line that `check_index` writes, byte for byte. Definitions only.
-use Rattle.std.specs.Prelude.{ℕ, List, [], ◌∷◌, ◌++◌, length}
+use Rattle.std.specs.Prelude.{ℕ, List, [], ◌∷◌, ◌++◌, length, Ok, Err}
 use Rattle.model.specs.Common.{Text, bytes, total}
 use Rattle.model.specs.Records.{Index}
 use Rattle.model.specs.Limits.{scope_count, type_expr_count, definition_count, expression_count, item_count}
 use Rattle.format.specs.Load.{Loading, accepted, refused}
 use Rattle.resolution.specs.Answer.{decimal}
-use Rattle.loader.specs.declared.Loaded.{Loaded}
+use Rattle.refusals.specs.Numbers.{file_refusal_number}
+use Rattle.loader.specs.Load.{Loaded}
 use Rattle.records.specs.Layout.{word, each, count_of, module_count, question_count, scope_rows, type_expr_rows, definition_rows, expression_rows}
 
 -- a number behind a tab
@@ -40,8 +41,8 @@ abbrev pub refused_line : ℕ → ℕ → Text
 refused_line number line = counted (bytes "refused") (number ∷ line ∷ []) ++ bytes "\n"
 
 abbrev pub line_of : Loaded → List ℕ → Text
-line_of Loaded.Accepted words = accepted_line words
-line_of (Loaded.Refused number line) words = refused_line number line
+line_of (Ok u) words = accepted_line words
+line_of (Err e) words = refused_line (file_refusal_number e.refusal) e.line
 
 -- ------------------------------------------------------------------ the line that the definition of loading sets out
 

@@ -2,13 +2,14 @@
 // expressions, questions and items it has, or `refused`, the refusal's number and its line; parted by tabs.
 #![tactic(auto)]
 
-ghost use Rattle.std.specs.Prelude.{◌≡◌, ◌+◌, ◌≤◌, [], ◌∷◌, ◌++◌, IfOk, length, take};
+ghost use Rattle.std.specs.Prelude.{◌≡◌, ◌+◌, ◌*◌, ◌≤◌, [], ◌∷◌, ◌++◌, IfOk, length, take};
 ghost use Rattle.io.specs.Counts.{IsPrefixLen};
 ghost use Rattle.check_index.specs.Line.{counted, counts, row_total, accepted_line, refused_line, line_of, loading_line};
 ghost use Rattle.format.specs.Load.{load};
 ghost use Rattle.records.specs.Layout.{word as word_of};
+ghost use Rattle.refusals.specs.Numbers.{file_refusal_number};
 
-use loader::Loaded;
+use refusals::FileRefused;
 use std::io::{Print, Read};
 
 // The word of the header that says how many items there are.
@@ -34,12 +35,9 @@ fn put_text(out: &mut [u8], at: usize, text: &[u8]) -> usize
     ensures ends { result ≡ at + length text.now }
     ensures puts { take result out.new ≡ take at out.old ++ text.now }
 {
-    let mut i = 0;
-    while i < text.len() {
-        out[at + i] = text[i];
-        i += 1;
-    }
-    at + i
+    let end = at + text.len();
+    out[at..end].copy_from_slice(text);
+    end
 }
 
 // The same of a tab and a number.
@@ -55,25 +53,18 @@ fn put_number(out: &mut [u8], at: usize, n: u64) -> usize
     put_text(out, behind, &digits[..k])
 }
 
-// The same of two numbers, and of four.
-fn put_two(out: &mut [u8], at: usize, a: u64, b: u64) -> usize
-    requires { at + 42 ≤ length out.old }
+// The same of each of the numbers, behind a tab.
+fn put_numbers(out: &mut [u8], at: usize, numbers: &[u64]) -> usize
+    requires { at + 21 * length numbers.now ≤ length out.old }
     ensures long { length out.new ≡ length out.old }
-    ensures ends { result ≤ at + 42 }
-    ensures puts { take result out.new ≡ counted (take at out.old) (a ∷ b ∷ []) }
+    ensures ends { result ≤ at + 21 * length numbers.now }
+    ensures puts { take result out.new ≡ counted (take at out.old) numbers.now }
 {
-    let behind = put_number(out, at, a);
-    put_number(out, behind, b)
-}
-
-fn put_four(out: &mut [u8], at: usize, a: u64, b: u64, c: u64, d: u64) -> usize
-    requires { at + 84 ≤ length out.old }
-    ensures long { length out.new ≡ length out.old }
-    ensures ends { result ≤ at + 84 }
-    ensures puts { take result out.new ≡ counted (take at out.old) (a ∷ b ∷ c ∷ d ∷ []) }
-{
-    let behind = put_two(out, at, a, b);
-    put_two(out, behind, c, d)
+    let mut end = at;
+    for n in numbers {
+        end = put_number(out, end, *n);
+    }
+    end
 }
 
 // The line of an accepted file, by its record words; and how long it is.
@@ -102,9 +93,19 @@ fn put_records(words: &[u32], out: &mut [u8], at: usize) -> usize
     let expressions = row_total(words, records::EXPRESSION_ROWS);
     let questions = word(words, records::QUESTION_COUNT);
     let items = word(words, ITEM_COUNT);
-    let four = put_four(out, at, modules, scopes, types, definitions);
-    let six = put_two(out, four, expressions, questions);
-    put_number(out, six, items)
+    put_numbers(
+        out,
+        at,
+        &[
+            modules,
+            scopes,
+            types,
+            definitions,
+            expressions,
+            questions,
+            items,
+        ],
+    )
 }
 
 fn word(words: &[u32], i: usize) -> u64
@@ -119,35 +120,33 @@ fn row_total(words: &[u32], kind: u32) -> u64
 {
     let count = records::word_at(words, records::MODULE_COUNT);
     let mut sum: u64 = 0;
-    let mut m: u32 = 0;
-    while m < count {
-        let rows = records::rows_of(words, m, kind);
-        sum += rows.count as u64;
-        m += 1;
+    for m in 0..count {
+        sum += records::rows_of(words, m, kind).count as u64;
     }
     sum
 }
 
 // The line of a refused file.
-fn put_refused(number: u32, line: u32, out: &mut [u8]) -> usize
+fn put_refused(refused: FileRefused, out: &mut [u8]) -> usize
     requires { 192 ≤ length out.old }
     ensures fits { IsPrefixLen result out.new }
-    ensures is { take result out.new ≡ refused_line number line }
+    ensures is { take result out.new ≡ refused_line (file_refusal_number refused.refusal) refused.line }
 {
     let begun = put_text(out, 0, b"refused");
-    let behind = put_two(out, begun, number as u64, line as u64);
+    let number = refused.refusal.number();
+    let behind = put_numbers(out, begun, &[number as u64, refused.line as u64]);
     put_text(out, behind, b"\n")
 }
 
 // The line of a loaded file.
-fn put_line(loaded: Loaded, words: &[u32], out: &mut [u8]) -> usize
+fn put_line(loaded: Result<(), FileRefused>, words: &[u32], out: &mut [u8]) -> usize
     requires { 192 ≤ length out.old }
     ensures fits { IsPrefixLen result out.new }
     ensures is { take result out.new ≡ line_of loaded words.now }
 {
     match loaded {
-        Loaded::Accepted => put_accepted(words, out),
-        Loaded::Refused(number, line) => put_refused(number, line, out),
+        Ok(()) => put_accepted(words, out),
+        Err(refused) => put_refused(refused, out),
     }
 }
 

@@ -18,7 +18,7 @@ use Rattle.format.specs.Shapes.{definition_shape, definition_as}
 use Rattle.format.specs.Lines.{a_definition, entry_items, definition_from, word_here, definition_line, line_from}
 use Rattle.records.specs.Layout.{word, definition_place, item_place, definition_kind_by, definition_row, definition_word}
 use Rattle.records.specs.Promises.{Put}
-use Rattle.records.proofs.Stores.{put_append, definition_put, definition_row_same, same_above, Listed}
+use Rattle.records.proofs.Stores.{definition_put, definition_row_same, same_above, Listed}
 use Rattle.loader.specs.Items.{Behind}
 use Rattle.loader.specs.Numbers.{definition_number}
 use Rattle.loader.specs.Values.{Words, parts, value_by}
@@ -26,7 +26,6 @@ use Rattle.loader.specs.State.{row_entry, Fine, HasRoom}
 use Rattle.loader.specs.Lines.{tail_by, TailHeld, path_fits, LinePut}
 use Rattle.loader.specs.declared.rows.Counts.{Counts}
 use Rattle.loader.specs.declared.rows.Tail.{Tail}
-use Rattle.loader.specs.declared.rows.LineRead.{LineRead}
 use Rattle.loader.proofs.Tailing.{tail_kept}
 use Rattle.loader.proofs.Leaving.{left_then, behind_left, put_left, definition_apart}
 use Rattle.loader.proofs.Decoding.{RowOf, definition_kind_row, definition_path_lost, definition_listed, definition_other}
@@ -73,15 +72,10 @@ module _ (file t : Text) where
           definition_no_path r =
               definition_read (tail_by file (definition_shape w) x h.list) None h.is (definition_path_lost file words' (drop q file) n.items x low w h r)
 
-          module _ {words words₁ words₂ words₃ : List ℕ} (fine : Fine file words n) (room : HasRoom LineWord.D n) (known : definition_number w ≡ 7 → ⊥)
+          module _ {words words₃ : List ℕ} (fine : Fine file words n) (room : HasRoom LineWord.D n) (known : definition_number w ≡ 7 → ⊥)
               (path : path_fits (definition_number w) (parts x.c).low x.count ≡ true) (behind : Behind n.items words words')
-              (first : Put words' (definition_place n.definitions) (definition_number w ∷ scope.low ∷ name.low ∷ start.low ∷ []) words₁)
-              (second : Put words₁ (definition_place n.definitions + 4) (end.low ∷ full_start.low ∷ full_end.low ∷ (parts x.a).low ∷ []) words₂)
-              (third : Put words₂ (definition_place n.definitions + 8) ((parts x.b).low ∷ (parts x.c).low ∷ x.list ∷ 0 ∷ []) words₃) where
-            put : Put words' (definition_place n.definitions)
-                (definition_number w ∷ scope.low ∷ name.low ∷ start.low ∷ end.low ∷ full_start.low ∷ full_end.low ∷ (parts x.a).low ∷ (parts x.b).low ∷ (parts x.c).low ∷ x.list ∷ 0 ∷ []) words₃
-            put = put_append (put_append first second) third
-
+              (put : Put words' (definition_place n.definitions)
+              (definition_number w ∷ scope.low ∷ name.low ∷ start.low ∷ end.low ∷ full_start.low ∷ full_end.low ∷ (parts x.a).low ∷ (parts x.b).low ∷ (parts x.c).low ∷ x.list ∷ 0 ∷ []) words₃) where
             kept : TailHeld file words₃ (definition_shape w) (drop q file) n.items x
             kept = tail_kept (same_above put (item_place 0) (item_place max_items) (omega (arith, room))) h
 
@@ -98,7 +92,7 @@ module _ (file t : Text) where
                 subst (Listed (n.items + x.count)) (sym (put.inside 10 (omega arith)))
                 (definition_listed file words₃ (drop q file) n.items x low (word words₃ (definition_place n.definitions)) kept few e)
 
-            pub definition_put_as : LinePut LineWord.D file words n t words₃ (LineRead.Is x.count x.end)
+            pub definition_put_as : LinePut LineWord.D file words n t words₃ (Some (x.count, x.end))
             unfolding row_entry entry_items
             definition_put_as =
                 record {

@@ -19,7 +19,7 @@ use Rattle.format.specs.Lines.{Line, an_expression, entry_items, expression_from
 use Rattle.records.specs.Layout.{word, link_by, expression_place, item_place, origin_by, expression_by, expression_row, expression_word}
 use Rattle.records.specs.Promises.{Put}
 use Rattle.records.proofs.Packing.{node_packed, origin_packed}
-use Rattle.records.proofs.Stores.{put_append, expression_put, expression_row_same, same_above, ListedNode}
+use Rattle.records.proofs.Stores.{expression_put, expression_row_same, same_above, ListedNode}
 use Rattle.loader.specs.Items.{Behind}
 use Rattle.loader.specs.Numbers.{origin_number, node_number}
 use Rattle.loader.specs.Values.{Words, parts, value_by}
@@ -27,7 +27,6 @@ use Rattle.loader.specs.State.{row_entry, Fine, HasRoom}
 use Rattle.loader.specs.Lines.{tail_by, TailHeld, last_word, OriginHere, origin_here, OriginHeld, LinePut}
 use Rattle.loader.specs.declared.rows.Counts.{Counts}
 use Rattle.loader.specs.declared.rows.Tail.{Tail}
-use Rattle.loader.specs.declared.rows.LineRead.{LineRead}
 use Rattle.loader.proofs.Tailing.{tail_kept}
 use Rattle.loader.proofs.Leaving.{left_then, behind_left, put_left, expression_apart}
 use Rattle.loader.proofs.Decoding.{RowOf, linked_is, origin_row_is, origin_other, origin_small, node_row, node_listed, node_other, node_small}
@@ -179,15 +178,9 @@ module _ (file t : Text) where
             pub expression_no_kind : node_number w ≡ 16 → line_from LineWord.E t ≡ None
             expression_no_kind r = expression_read h None (node_other w (tail_by file (node_shape w) x h.list) r)
 
-            module _ {words words₁ words₂ words₃ words₄ : List ℕ} (fine : Fine file words n) (room : HasRoom LineWord.E n) (known : node_number w ≡ 16 → ⊥) (behind : Behind n.items words words')
-                (first : Put words' (expression_place n.expressions) ((node_number w + 256 * kind) ∷ scope.low ∷ start.low ∷ end.low ∷ []) words₁)
-                (second : Put words₁ (expression_place n.expressions + 4) (expected.low ∷ definition.low ∷ link ∷ value ∷ []) words₂)
-                (third : Put words₂ (expression_place n.expressions + 8) ((parts x.a).low ∷ (parts x.b).low ∷ []) words₃)
-                (fourth : Put words₃ (expression_place n.expressions + 10) (last_word (node_shape w) x ∷ []) words₄) where
-              put : Put words' (expression_place n.expressions)
-                  ((node_number w + 256 * kind) ∷ scope.low ∷ start.low ∷ end.low ∷ expected.low ∷ definition.low ∷ link ∷ value ∷ (parts x.a).low ∷ (parts x.b).low ∷ last_word (node_shape w) x ∷ []) words₄
-              put = put_append (put_append (put_append first second) third) fourth
-
+            module _ {words words₄ : List ℕ} (fine : Fine file words n) (room : HasRoom LineWord.E n) (known : node_number w ≡ 16 → ⊥) (behind : Behind n.items words words')
+                (put : Put words' (expression_place n.expressions)
+                ((node_number w + 256 * kind) ∷ scope.low ∷ start.low ∷ end.low ∷ expected.low ∷ definition.low ∷ link ∷ value ∷ (parts x.a).low ∷ (parts x.b).low ∷ last_word (node_shape w) x ∷ []) words₄) where
               node_low : node_number w < 256
               node_low = omega (arith, node_small w)
 
@@ -217,7 +210,7 @@ module _ (file t : Text) where
                   (sym (ap (λ k. k % 256) (ap (word words₄) (omega arith) ∙ put.inside 0 (omega arith)) ∙ node_packed (node_number w) kind node_low))
                   (subst (ListedNode (n.items + x.count) (node_number w)) (sym (put.inside 10 (omega arith))) (node_listed file words₄ (drop q file) n.items x fine.items w kept few))
 
-              pub expression_put_as : LinePut LineWord.E file words n t words₄ (LineRead.Is x.count x.end)
+              pub expression_put_as : LinePut LineWord.E file words n t words₄ (Some (x.count, x.end))
               unfolding row_entry entry_items
               expression_put_as =
                   record {

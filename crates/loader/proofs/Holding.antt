@@ -22,7 +22,6 @@ use Rattle.fields.specs.declared.Value as held
 use Rattle.fields.specs.declared.Slot.{Slot}
 use Rattle.fields.specs.Held.{value_is, slot_is}
 use Rattle.fields.proofs.Slots.{slot_found}
-use Rattle.loader.specs.declared.values.SlotWords.{SlotWords}
 use Rattle.loader.specs.Values.{parts, linked, named, value_by, is_link, slot_words_is}
 
 -- ------------------------------------------------------------------ what a field of a kind can hold
@@ -303,17 +302,17 @@ module _ (file : Text) (p n w : ℕ) (low : p < 65536) (short : n ≤ 64) (is_Is
 
 -- ------------------------------------------------------------------ a field that was read
 
-module _ (s t : Text) (k : Kind) (r : Slot) (q : slot_is s r ≡ slot k t) (v : held.Value) (e : ℕ) (found : r ≡ Slot.Is v e) where
-  pub held_fits : {u : held.Value} → v ≡ u → Fits k (value_is s u)
-  held_fits h = subst (λ x. Fits k (value_is s x)) h (every_some (slot_fits k t) (slot_found s t k r q v e found))
+module _ (s t : Text) (k : Kind) (r : Option Slot) (q : slot_is s r ≡ slot k t) (f : Slot) (found : r ≡ Some f) where
+  pub held_fits : {u : held.Value} → f.value ≡ u → Fits k (value_is s u)
+  held_fits h = subst (λ x. Fits k (value_is s x)) h (every_some (slot_fits k t) (slot_found s t k r q f found))
 
-  pub words_held : {u : held.Value} (w : ℕ) → v ≡ u → value_is s u ≡ value_by k s (parts w) → Some (record { value = value_by k s (parts w); rest = drop e s }) ≡ slot k t
+  pub words_held : {u : held.Value} (w : ℕ) → f.value ≡ u → value_is s u ≡ value_by k s (parts w) → Some (record { value = value_by k s (parts w); rest = drop f.end s }) ≡ slot k t
   words_held w h same =
-      sym (slot_found s t k r q v e found ∙ ap (λ x. Some (record { value = x; rest = drop e s })) (ap (value_is s) h ∙ same))
+      sym (slot_found s t k r q f found ∙ ap (λ x. Some (record { value = x; rest = drop f.end s })) (ap (value_is s) h ∙ same))
 
-module _ (s t : Text) (k : Kind) (r : SlotWords) (q : slot_words_is k s r ≡ slot k t) where
-  pub words_found : (w e : ℕ) → r ≡ SlotWords.Are w e → slot k t ≡ Some (record { value = value_by k s (parts w); rest = drop e s })
+module _ (s t : Text) (k : Kind) (r : Option (ℕ × ℕ)) (q : slot_words_is k s r ≡ slot k t) where
+  pub words_found : (w e : ℕ) → r ≡ Some (w, e) → slot k t ≡ Some (record { value = value_by k s (parts w); rest = drop e s })
   words_found w e h = sym q ∙ ap (slot_words_is k s) h
 
-  pub words_lost : r ≡ SlotWords.Wrong → slot k t ≡ None
+  pub words_lost : r ≡ None → slot k t ≡ None
   words_lost h = sym q ∙ ap (slot_words_is k s) h

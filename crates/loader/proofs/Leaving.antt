@@ -1,15 +1,23 @@
 -- What a store leaves: the rows that are counted. Assumes nothing.
 use Prim.Native.Nat.{ℕ, ◌+◌, ◌≤◌, ◌<◌}
-use mathlib.Core.Path.{◌≡◌, refl, sym, subst, ◌∙◌}
+use mathlib.Core.Path.{◌≡◌, refl, sym, ap, subst, ◌∙◌}
 use mathlib.Core.Logic.{inl, inr, ⊎_elim}
 use mathlib.Core.List.{List, [], ◌∷◌}
-use native.Mathlib.Nat.{add-zero}
 use native.Mathlib.Omega.{arith}
-use lib.ListN.{length, set}
+use lib.ListN.{length}
+use Rattle.std.specs.Prelude.{Option, None, Some, if◌then◌else◌}
+use mathlib.Core.Bool.{Bool, true, false, false≢true}
+use lib.Dec.{eqb}
+use borrow.Author.Tests.{eq-eqb}
+use Rattle.model.proofs.Tests.{eqb_sound, none≢some, some-injective}
+use Rattle.loader.specs.Numbers.{known}
+use Rattle.model.specs.Common.{Text}
+use Rattle.format.specs.Lines.{line_from}
+use Rattle.loader.specs.Lines.{LineIs, LinePut}
 use Rattle.format.specs.declared.LineWord.{LineWord}
 use Rattle.records.specs.Layout.{word, module_place, scope_place, type_expr_place, definition_place, expression_place, question_place, item_place}
 use Rattle.records.specs.Promises.{Put}
-use Rattle.records.proofs.Stores.{put_nothing, put_more, lt_or_ge}
+use Rattle.records.proofs.Stores.{lt_or_ge}
 use Rattle.loader.specs.Items.{Behind}
 use Rattle.loader.specs.State.{Left, Fine, HasRoom, counts_after}
 use Rattle.loader.specs.declared.rows.Counts.{Counts}
@@ -39,6 +47,11 @@ left_then p q =
       questions = λ i a b. q.questions i a b ∙ p.questions i a b;
       items = λ i a b. q.items i a b ∙ p.items i a b;
     }
+
+-- no line was read
+pub line_lost : {w : LineWord} {file words : List ℕ} {n : Counts} {t : Text} {words' : List ℕ} {r : Option (ℕ × ℕ)}
+    → r ≡ None → Left n words words' → line_from w t ≡ None → LinePut w file words n t words' r
+line_lost {w} {file} {words} {n} {t} {words'} e left none = record { left = left; line = subst (LineIs w file words' n t) (sym e) none }
 
 -- fewer rows
 pub record Fewer (n m : Counts) : Type 0 where
@@ -137,14 +150,34 @@ module _ {file words : List ℕ} (n : Counts) (fine : Fine file words n) where
   pub question_apart : HasRoom LineWord.Q n → Apart n (question_place n.questions) 4
   question_apart room = omega (arith, fine, room)
 
--- a row of four words
-pub put_ends : {words words' : List ℕ} {at k k' a b d d' : ℕ} → k ≡ k' → d ≡ d' → Put words at (k ∷ a ∷ b ∷ d ∷ []) words' → Put words at (k' ∷ a ∷ b ∷ d' ∷ []) words'
-put_ends {words} {words'} {at} {a = a} {b = b} e f p = subst (λ v. Put words at v words') (λ i. e i ∷ a ∷ b ∷ f i ∷ []) p
+-- a row's values, known by what they are equal to: the first, the second of two, the fourth of four, and the eleventh
+module _ {words words' : List ℕ} {at : ℕ} where
+  pub put_first : {k k' : ℕ} {rest : List ℕ} → k ≡ k' → Put words at (k ∷ rest) words' → Put words at (k' ∷ rest) words'
+  put_first {rest = rest} e p = subst (λ v. Put words at v words') (ap (λ j. j ∷ rest) e) p
 
--- a row of two words
-pub put_second : {words words' : List ℕ} {at a b b' : ℕ} → b ≡ b' → Put words at (a ∷ b ∷ []) words' → Put words at (a ∷ b' ∷ []) words'
-put_second {words} {words'} {at} {a} e p = subst (λ v. Put words at v words') (λ i. a ∷ e i ∷ []) p
+  pub put_second : {a b b' : ℕ} → b ≡ b' → Put words at (a ∷ b ∷ []) words' → Put words at (a ∷ b' ∷ []) words'
+  put_second {a} e p = subst (λ v. Put words at v words') (λ i. a ∷ e i ∷ []) p
 
--- one word
-pub put_only : {words : List ℕ} {at v v' : ℕ} → v ≡ v' → at < length words → Put words at (v' ∷ []) (set words at v)
-put_only {words} {at} {v} e room = subst (λ k. Put words at (k ∷ []) (set words at v)) e (put_more at v (put_nothing words at) (sym (add-zero at)) room)
+  pub put_fourth : {a b d v v' : ℕ} → v ≡ v' → Put words at (a ∷ b ∷ d ∷ v ∷ []) words' → Put words at (a ∷ b ∷ d ∷ v' ∷ []) words'
+  put_fourth {a} {b} {d} e p = subst (λ u. Put words at u words') (λ i. a ∷ b ∷ d ∷ e i ∷ []) p
+
+  pub put_eleventh : {a b d e f g h j k l v v' : ℕ} → v ≡ v' → Put words at (a ∷ b ∷ d ∷ e ∷ f ∷ g ∷ h ∷ j ∷ k ∷ l ∷ v ∷ []) words'
+      → Put words at (a ∷ b ∷ d ∷ e ∷ f ∷ g ∷ h ∷ j ∷ k ∷ l ∷ v' ∷ []) words'
+  put_eleventh {a} {b} {d} {e} {f} {g} {h} {j} {k} {l} same p =
+      subst (λ u. Put words at u words') (λ i. a ∷ b ∷ d ∷ e ∷ f ∷ g ∷ h ∷ j ∷ k ∷ l ∷ same i ∷ []) p
+
+-- a word's number, where the word is one of the table's, and where it is not
+module _ (other n : ℕ) (r : Option ℕ) (is : r ≡ known other n) where
+  pub number_lost : r ≡ None → n ≡ other
+  number_lost e = by (eqb n other) refl (sym e ∙ is)
+    where
+      by : (b : Bool) → eqb n other ≡ b → ◌≡◌ {A = Option ℕ} None (if b then None else Some n) → n ≡ other
+      by true q h = eqb_sound n other q
+      by false q h = absurd (none≢some h)
+
+  pub number_kept : (k : ℕ) → r ≡ Some k → (k ≡ n) × (n ≡ other → ⊥)
+  number_kept k e = by (eqb n other) refl (sym e ∙ is)
+    where
+      by : (b : Bool) → eqb n other ≡ b → ◌≡◌ {A = Option ℕ} (Some k) (if b then None else Some n) → (k ≡ n) × (n ≡ other → ⊥)
+      by true q h = absurd (none≢some (sym h))
+      by false q h = (some-injective h, λ same. false≢true (sym q ∙ eq-eqb n other same))

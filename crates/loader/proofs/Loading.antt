@@ -2,13 +2,13 @@
 use Prim.Native.Nat.{ℕ, ◌+◌, ◌≤◌, ◌<◌}
 use mathlib.Core.Path.{◌≡◌, refl, sym, ap, subst, ◌∙◌}
 use mathlib.Core.List.{List, ◌++◌}
-use mathlib.Core.Bool.{Bool, true, false, not}
+use mathlib.Core.Bool.{Bool, true, false, not, false≢true}
 use Rattle.std.specs.Prelude.{Option, None, Some}
 use native.Mathlib.Omega.{arith}
 use lib.ListN.{length, take, drop, replicate, length-take, length-drop, length-append, length-replicate}
 use lib.Seq.{take-append_seam, drop-append_seam}
 use borrow.Author.Tests.{le-ltb}
-use Rattle.std.specs.Prelude.{if◌then◌else◌}
+use Rattle.std.specs.Prelude.{if◌then◌else◌, Result, Ok, Err, IsErrAnd, is_err}
 use Rattle.model.specs.Common.{Text, let_some, bytes, first}
 use Rattle.model.specs.Limits.{max_bytes, record_words}
 use Rattle.model.specs.Records.{Index}
@@ -18,8 +18,12 @@ use Rattle.format.specs.FirstPass.{read, wrong, first_pass}
 use Rattle.format.specs.LinkCheck.{linked_lines, link_fault}
 use Rattle.links.proofs.Lines.{first_below}
 use Rattle.format.specs.Load.{accepted, refused, first_lines, first_line_length, version_of, after_first, load_lines, load}
-use Rattle.loader.specs.Load.{loaded_is, ItemsCounted, Cleared, WordsPut, Filled}
-use Rattle.loader.specs.declared.Loaded.{Loaded}
+use Rattle.loader.specs.Load.{Loaded, loaded_is, ItemsCounted, Cleared, FilePut, WordsPut, Filled}
+
+-- what `?` hands on is the refusal that it was given
+pub err_is : {A E : Type 0} (r : Result A E) (e : E) → IsErrAnd r (λ x. x ≡ e) → r ≡ Err e
+err_is (Ok a) e h = absurd h
+err_is (Err x) e h = ap Err h
 
 -- a first line of the format has eight bytes
 pub version_long : (file : Text) (version : ℕ) → version_of file ≡ Some version → 8 ≤ length file
@@ -83,6 +87,11 @@ fault_small index line e = of (first not (linked_lines index)) refl e
 
 pub zeros_long : length {A = ℕ} (replicate record_words 0) ≡ record_words
 zeros_long = length-replicate {A = ℕ} record_words 0
+
+-- a file that was refused, where the words were cleared
+pub refused_put : (file words zeros : List ℕ) (r : Loaded) → is_err r ≡ true → FilePut file words r → zeros ≡ replicate record_words 0 → WordsPut file zeros r
+refused_put file words zeros (Ok u) e put zero = absurd (false≢true e)
+refused_put file words zeros (Err x) e put zero = record { put = record { long = ap length zero ∙ zeros_long; is = put.is; items = tt }; cleared = zero }
 
 pub filled : (file old words : List ℕ) (r : Loaded) → record_words ≤ length old → WordsPut file words r → Filled file old (words ++ drop record_words old) r
 filled file old words r enough put =

@@ -23,7 +23,6 @@ use Rattle.loader.specs.Values.{parts}
 use Rattle.loader.specs.Lines.{tail_by, TailHeld, LinePut}
 use Rattle.loader.specs.declared.rows.Counts.{Counts}
 use Rattle.loader.specs.declared.rows.Tail.{Tail}
-use Rattle.loader.specs.declared.rows.LineRead.{LineRead}
 use Rattle.loader.proofs.Leaving.{left_then, behind_left, put_left, question_apart}
 use Rattle.loader.proofs.Decoding.{question_row_is, question_none, question_other}
 
@@ -51,7 +50,7 @@ module _ (file t : Text) where
         abbrev value : Question
         value = question_by (question_number w) (parts x.a).low (parts x.b).low (parts x.c).low
 
-        pub question_put_as : LinePut LineWord.Q file words n t words'' (LineRead.Is x.count x.end)
+        pub question_put_as : LinePut LineWord.Q file words n t words'' (Some (x.count, x.end))
         unfolding row_entry entry_items
         question_put_as =
             record {

@@ -1,5 +1,5 @@
 -- S and M: the line that was read is the row that was written. Assumes nothing.
-use Prim.Native.Nat.{ℕ, ◌+◌}
+use Prim.Native.Nat.{ℕ}
 use mathlib.Core.Path.{◌≡◌, refl, sym, ap, ◌∙◌}
 use mathlib.Core.List.{List, [], ◌∷◌}
 use mathlib.Core.Bool.{true, false}
@@ -18,7 +18,7 @@ use Rattle.format.specs.Shapes.{maybe_num, bare, module_shape, scope_as}
 use Rattle.format.specs.Lines.{a_module, a_scope, entry_items, word_here, module_line, scope_line, line_from}
 use Rattle.records.specs.Layout.{word, module_place, scope_place, link_by, name_by, scope_kind_by}
 use Rattle.records.specs.Promises.{Put}
-use Rattle.records.proofs.Stores.{put_append, scope_put, scope_row_same}
+use Rattle.records.proofs.Stores.{scope_put, scope_row_same}
 use Rattle.loader.specs.Items.{Behind}
 use Rattle.loader.specs.Numbers.{scope_number}
 use Rattle.loader.specs.State.{row_entry, Fine, HasRoom}
@@ -26,7 +26,6 @@ use Rattle.loader.specs.Values.{parts, linked}
 use Rattle.loader.specs.Lines.{tail_by, TailHeld, scope_fits, LinePut}
 use Rattle.loader.specs.declared.rows.Counts.{Counts}
 use Rattle.loader.specs.declared.rows.Tail.{Tail}
-use Rattle.loader.specs.declared.rows.LineRead.{LineRead}
 use Rattle.loader.proofs.Leaving.{left_then, behind_left, put_left, module_apart, scope_apart}
 use Rattle.loader.proofs.Decoding.{scope_row_is, scope_lost}
 
@@ -58,7 +57,7 @@ module _ (file t : Text) where
 
         module _ {words words'' : List ℕ} (fine : Fine file words n) (room : HasRoom LineWord.S n) (fits : scope_fits parent w ≡ true) (behind : Behind n.items words words')
             (put : Put words' (scope_place n.scopes) (parent ∷ scope_number w ∷ []) words'') where
-          pub scope_put_as : LinePut LineWord.S file words n t words'' (LineRead.Is x.count x.end)
+          pub scope_put_as : LinePut LineWord.S file words n t words'' (Some (x.count, x.end))
           unfolding row_entry entry_items
           scope_put_as =
               record {
@@ -80,18 +79,13 @@ module _ (file t : Text) where
   unfolding line_from module_line
   module_no_tail p = rw p
 
-  module _ {words words' words₁ words₂ words₃ : List ℕ} (n : Counts) (x : Tail) (h : TailHeld file words' module_shape t n.items x)
+  module _ {words words' words₃ : List ℕ} (n : Counts) (x : Tail) (h : TailHeld file words' module_shape t n.items x)
       (fine : Fine file words n) (room : HasRoom LineWord.M n) (behind : Behind n.items words words')
-      (first : Put words' (module_place n.modules) ((parts x.a).low ∷ n.scopes ∷ []) words₁)
-      (second : Put words₁ (module_place n.modules + 2) (n.types ∷ n.definitions ∷ []) words₂)
-      (third : Put words₂ (module_place n.modules + 4) (n.expressions ∷ 0 ∷ []) words₃) where
-    put : Put words' (module_place n.modules) ((parts x.a).low ∷ n.scopes ∷ n.types ∷ n.definitions ∷ n.expressions ∷ 0 ∷ []) words₃
-    put = put_append (put_append first second) third
-
+      (put : Put words' (module_place n.modules) ((parts x.a).low ∷ n.scopes ∷ n.types ∷ n.definitions ∷ n.expressions ∷ 0 ∷ []) words₃) where
     name_put : word words₃ (module_place n.modules) ≡ (parts x.a).low
     name_put = ap (word words₃) (omega arith) ∙ put.inside 0 (omega arith)
 
-    pub module_put_as : LinePut LineWord.M file words n t words₃ (LineRead.Is x.count x.end)
+    pub module_put_as : LinePut LineWord.M file words n t words₃ (Some (x.count, x.end))
     unfolding row_entry entry_items line_from module_line
     module_put_as =
         record {

@@ -19,17 +19,15 @@ use Rattle.records.proofs.Lists.{each_same}
 use Rattle.loader.specs.Values.{parts, value_by, three_words_is}
 use Rattle.loader.specs.Items.{item_by, item_row, items_by, ItemsHeld}
 use Rattle.loader.specs.Lines.{tail_by, TailHeld, TailIs, TailPut}
-use Rattle.loader.specs.declared.values.ThreeWords.{ThreeWords}
 use Rattle.loader.specs.declared.rows.Tail.{Tail}
-use Rattle.loader.specs.declared.rows.TailRead.{TailRead}
 
 -- what the definition reads where the code has read three fields, and where it has not
-module _ (s t : Text) (ka kb kc : Kind) (r : ThreeWords) (q : three_words_is ka kb kc s r ≡ tails.three ka kb kc t) where
-  pub three_found : (a b c e : ℕ) → r ≡ ThreeWords.Are a b c e
+module _ (s t : Text) (ka kb kc : Kind) (r : Option (ℕ × ℕ × ℕ × ℕ)) (q : three_words_is ka kb kc s r ≡ tails.three ka kb kc t) where
+  pub three_found : (a b c e : ℕ) → r ≡ Some (a, b, c, e)
       → tails.three ka kb kc t ≡ Some (record { a = value_by ka s (parts a); b = value_by kb s (parts b); c = value_by kc s (parts c); rest = drop e s })
   three_found a b c e h = sym q ∙ ap (three_words_is ka kb kc s) h
 
-  pub three_lost : r ≡ ThreeWords.Wrong → tails.three ka kb kc t ≡ None
+  pub three_lost : r ≡ None → tails.three ka kb kc t ≡ None
   three_lost h = sym q ∙ ap (three_words_is ka kb kc s) h
 
 -- no list has no items
@@ -60,7 +58,7 @@ module _ (s : Shape) (file t : Text) where
             list = h.list;
             is = whole;
             counts = h.counts;
-            None = λ empty. sym h.counts ∙ empty_list s.list (drop e file) _ empty h.is;
+            none = λ empty. sym h.counts ∙ empty_list s.list (drop e file) _ empty h.is;
             held = h.held;
             packed = is_list;
           }
@@ -79,7 +77,7 @@ tail_kept {file} {words} {words'} {s} {t} {first} {x} left h =
       list = h.list;
       is = h.is;
       counts = h.counts;
-      None = h.none;
+      none = h.none;
       held = λ few.
           h.held few
           ∙ each_same (item_row s.list file words) (item_row s.list file words') first x.count
@@ -88,12 +86,12 @@ tail_kept {file} {words} {words'} {s} {t} {first} {x} left h =
     }
 
 -- what was read, or not
-module _ (file words : List ℕ) (s : Shape) (t : Text) (first : ℕ) {r : TailRead} (h : TailIs file words s t first r) where
-  pub tail_of : (x : Tail) → r ≡ TailRead.Is x → TailHeld file words s t first x
+module _ (file words : List ℕ) (s : Shape) (t : Text) (first : ℕ) {r : Option Tail} (h : TailIs file words s t first r) where
+  pub tail_of : (x : Tail) → r ≡ Some x → TailHeld file words s t first x
   tail_of x e = subst (TailIs file words s t first) e h
 
-  pub tail_none : r ≡ TailRead.Wrong → tails.tail s t ≡ None
+  pub tail_none : r ≡ None → tails.tail s t ≡ None
   tail_none e = subst (TailIs file words s t first) e h
 
-pub tail_put_as : {file words : List ℕ} {s s' : Shape} {t : Text} {first : ℕ} {words' : List ℕ} {r : TailRead} → s ≡ s' → TailPut file words s t first words' r → TailPut file words s' t first words' r
+pub tail_put_as : {file words : List ℕ} {s s' : Shape} {t : Text} {first : ℕ} {words' : List ℕ} {r : Option Tail} → s ≡ s' → TailPut file words s t first words' r → TailPut file words s' t first words' r
 tail_put_as {file} {words} {s} {s'} {t} {first} {words'} {r} e h = subst (λ k. TailPut file words k t first words' r) e h

@@ -24,7 +24,6 @@ use Rattle.loader.specs.Values.{parts}
 use Rattle.loader.specs.Lines.{tail_by, TailHeld, last_word, LinePut}
 use Rattle.loader.specs.declared.rows.Counts.{Counts}
 use Rattle.loader.specs.declared.rows.Tail.{Tail}
-use Rattle.loader.specs.declared.rows.LineRead.{LineRead}
 use Rattle.loader.proofs.Tailing.{tail_kept}
 use Rattle.loader.proofs.Leaving.{left_then, behind_left, put_left, type_apart}
 use Rattle.loader.proofs.Decoding.{RowOf, type_row, type_listed, type_other}
@@ -64,7 +63,7 @@ module _ (file t : Text) where
             subst (Listed (n.items + x.count)) (sym (put.inside 3 (omega arith)))
             (type_listed file words'' (drop q file) n.items x fine.items w kept few (sym (ap (word words'') (omega arith) ∙ put.inside 0 (omega arith)) ∙ e))
 
-        pub type_put : LinePut LineWord.T file words n t words'' (LineRead.Is x.count x.end)
+        pub type_put : LinePut LineWord.T file words n t words'' (Some (x.count, x.end))
         unfolding row_entry entry_items
         type_put =
             record {

@@ -8,8 +8,6 @@ use Rattle.format.specs.Fields.{slot}
 use Rattle.format.specs.Tails.{Item, items, first_kind, second_kind}
 use Rattle.records.specs.Layout.{word, each, item_place, item_value, item_name}
 use Rattle.loader.specs.Values.{Words, value_by}
-use Rattle.loader.specs.declared.items.ItemWords.{ItemWords}
-use Rattle.loader.specs.declared.items.ItemsRead.{ItemsRead}
 
 -- ------------------------------------------------------------------ one item
 
@@ -44,9 +42,10 @@ abbrev pub item_by : Listed → Text → ℕ → ℕ → Item
 item_by l file value name =
     record { first = value_by (first_kind l) file (one_word (first_word l value name)); second = value_by (second_kind l) file (one_word value) }
 
-abbrev pub item_words_is : Listed → Text → ItemWords → Option ItemHere
-item_words_is l file (ItemWords.Are value name e) = Some (record { item = item_by l file value name; rest = drop e file })
-item_words_is l file ItemWords.Wrong = None
+-- an item's two words, and where it ends
+abbrev pub item_words_is : Listed → Text → Option (ℕ × ℕ × ℕ) → Option ItemHere
+item_words_is l file None = None
+item_words_is l file (Some r) = Some (record { item = item_by l file r.0 r.1; rest = drop r.2 file })
 
 -- ------------------------------------------------------------------ the items of a list
 
@@ -74,10 +73,11 @@ pub record ItemsHeld (file words : List ℕ) (l : Listed) (t : Text) (first coun
   pub counts : length list ≡ count
   pub held : first + count ≤ max_items → list ≡ items_by l file words first count
 
-abbrev pub ItemsAre : List ℕ → List ℕ → Listed → Text → ℕ → ItemsRead → Type 0
-ItemsAre file words l t first (ItemsRead.Are count end) = ItemsHeld file words l t first count end
-ItemsAre file words l t first ItemsRead.Wrong = items l t ≡ None
+-- how many items there are, and where they end
+abbrev pub ItemsAre : List ℕ → List ℕ → Listed → Text → ℕ → Option (ℕ × ℕ) → Type 0
+ItemsAre file words l t first None = items l t ≡ None
+ItemsAre file words l t first (Some r) = ItemsHeld file words l t first r.0 r.1
 
-pub record ItemsPut (file words : List ℕ) (l : Listed) (t : Text) (first : ℕ) (words' : List ℕ) (r : ItemsRead) : Type 0 where
+pub record ItemsPut (file words : List ℕ) (l : Listed) (t : Text) (first : ℕ) (words' : List ℕ) (r : Option (ℕ × ℕ)) : Type 0 where
   pub behind : Behind first words words'
   pub are : ItemsAre file words' l t first r

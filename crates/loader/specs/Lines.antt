@@ -18,9 +18,6 @@ use Rattle.loader.specs.Items.{items_by, Behind}
 use Rattle.loader.specs.State.{row_entry, Left, Begins, counts_after}
 use Rattle.loader.specs.declared.rows.Counts.{Counts}
 use Rattle.loader.specs.declared.rows.Tail.{Tail}
-use Rattle.loader.specs.declared.rows.TailRead.{TailRead}
-use Rattle.loader.specs.declared.rows.OriginRead.{OriginRead}
-use Rattle.loader.specs.declared.rows.LineRead.{LineRead}
 
 -- ------------------------------------------------------------------ what stands behind a word
 
@@ -39,15 +36,15 @@ pub record TailHeld (file words : List ℕ) (shape : Shape) (t : Text) (first : 
   pub list : List tails.Item
   pub is : tails.tail shape t ≡ Some (tail_by file shape x list)
   pub counts : length list ≡ x.count
-  pub None : tails.is_empty_list shape.list ≡ true → x.count ≡ 0
+  pub none : tails.is_empty_list shape.list ≡ true → x.count ≡ 0
   pub held : first + x.count ≤ max_items → list ≡ items_by shape.list file words first x.count
   pub packed : x.count ≤ max_items → x.list ≡ first + 65536 * x.count
 
-abbrev pub TailIs : List ℕ → List ℕ → Shape → Text → ℕ → TailRead → Type 0
-TailIs file words shape t first (TailRead.Is x) = TailHeld file words shape t first x
-TailIs file words shape t first TailRead.Wrong = tails.tail shape t ≡ None
+abbrev pub TailIs : List ℕ → List ℕ → Shape → Text → ℕ → Option Tail → Type 0
+TailIs file words shape t first None = tails.tail shape t ≡ None
+TailIs file words shape t first (Some x) = TailHeld file words shape t first x
 
-pub record TailPut (file words : List ℕ) (shape : Shape) (t : Text) (first : ℕ) (words' : List ℕ) (r : TailRead) : Type 0 where
+pub record TailPut (file words : List ℕ) (shape : Shape) (t : Text) (first : ℕ) (words' : List ℕ) (r : Option Tail) : Type 0 where
   pub behind : Behind first words words'
   pub tail : TailIs file words' shape t first r
 
@@ -101,9 +98,10 @@ pub record OriginHeld (file t : Text) (kind link value end : ℕ) : Type 0 where
   pub is : origin_here t ≡ Some (record { origin = origin_by file kind link value; rest = drop end file })
   pub small : kind ≤ 5
 
-abbrev pub OriginIs : Text → Text → OriginRead → Type 0
-OriginIs file t (OriginRead.Is kind link value end) = OriginHeld file t kind link value end
-OriginIs file t OriginRead.Wrong = origin_here t ≡ None
+-- the origin's number, link and value, and where they end
+abbrev pub OriginIs : Text → Text → Option (ℕ × ℕ × ℕ × ℕ) → Type 0
+OriginIs file t None = origin_here t ≡ None
+OriginIs file t (Some r) = OriginHeld file t r.0 r.1 r.2 r.3
 
 -- ------------------------------------------------------------------ a line
 
@@ -118,10 +116,11 @@ pub record LineHeld (w : LineWord) (file words : List ℕ) (n : Counts) (t : Tex
       → (words' : List ℕ) → Left (counts_after w n count) words words' → row_entry w file words' n ≡ row_entry w file words n
   pub begins : Begins w words n
 
-abbrev pub LineIs : LineWord → List ℕ → List ℕ → Counts → Text → LineRead → Type 0
-LineIs w file words n t (LineRead.Is count end) = LineHeld w file words n t count end
-LineIs w file words n t LineRead.Wrong = line_from w t ≡ None
+-- how many items the line's list has, and where its fields end
+abbrev pub LineIs : LineWord → List ℕ → List ℕ → Counts → Text → Option (ℕ × ℕ) → Type 0
+LineIs w file words n t None = line_from w t ≡ None
+LineIs w file words n t (Some r) = LineHeld w file words n t r.0 r.1
 
-pub record LinePut (w : LineWord) (file words : List ℕ) (n : Counts) (t : Text) (words' : List ℕ) (r : LineRead) : Type 0 where
+pub record LinePut (w : LineWord) (file words : List ℕ) (n : Counts) (t : Text) (words' : List ℕ) (r : Option (ℕ × ℕ)) : Type 0 where
   pub left : Left n words words'
   pub line : LineIs w file words' n t r

@@ -1,11 +1,15 @@
 -- The number of a word in a row: its place in the list of its words (document 01's; of questions, those of the change requests behind them). A word that is none of them has the number behind the last. Assumes nothing.
-use Rattle.std.specs.Prelude.{ℕ}
+use Rattle.std.specs.Prelude.{ℕ, eqb, if◌then◌else◌, Option, None, Some}
 use Rattle.format.specs.declared.ScopeWord.{ScopeWord}
 use Rattle.format.specs.declared.TypeWord.{TypeWord}
 use Rattle.format.specs.declared.DefinitionWord.{DefinitionWord}
 use Rattle.format.specs.declared.OriginWord.{OriginWord}
 use Rattle.format.specs.declared.NodeWord.{NodeWord}
 use Rattle.format.specs.declared.QuestionWord.{QuestionWord}
+
+-- the number of a word of the table; none for a word with the number behind the last
+abbrev pub known : ℕ → ℕ → Option ℕ
+known other n = if eqb n other then None else Some n
 
 abbrev pub scope_number : ScopeWord → ℕ
 scope_number ScopeWord.Module = 0

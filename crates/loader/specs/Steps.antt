@@ -1,4 +1,5 @@
 -- The lines one after the other: what holds of the words and the counts before each, and what a line does. Assumes nothing.
+use Rattle.std.specs.Prelude.{Result, Ok, Err}
 use Rattle.std.specs.Prelude.{ℕ, suc, ◌≤◌, ◌≡◌, List, Bool, true, false, not, ◌&&◌, length, drop}
 use Rattle.model.specs.Common.{Text, first, is_none, eq_numbers}
 use Rattle.model.specs.Limits.{scope_count, type_expr_count, definition_count, expression_count, item_count}
@@ -8,7 +9,8 @@ use Rattle.format.specs.FirstPass as pass
 use Rattle.records.specs.Layout.{module_place, word, each, name_by, scope_rows, type_expr_rows, definition_rows, expression_rows, begin_of}
 use Rattle.loader.specs.State.{index_so_far, seen_as, Left, Fine}
 use Rattle.loader.specs.declared.rows.Counts.{Counts}
-use Rattle.loader.specs.declared.lines.Step.{Step}
+use Rattle.refusals.specs.declared.FileRefusal.{FileRefusal}
+use Rattle.refusals.specs.Numbers.{file_refusal_number}
 
 -- ------------------------------------------------------------------ module names
 
@@ -61,15 +63,16 @@ pub record Good (file words : List ℕ) (n : Counts) : Type 0 where
 
 -- ------------------------------------------------------------------ a line
 
-abbrev pub step_is : ℕ → Text → List ℕ → Step → pass.Step
-step_is version file words (Step.Refuse number) = pass.refuse number
-step_is version file words (Step.Go n at) = pass.go (seen_as version file words n) (drop at file)
+-- a refusal, or what is counted then and where the next line begins
+abbrev pub step_is : ℕ → Text → List ℕ → Result (Counts × ℕ) FileRefusal → pass.Step
+step_is version file words (Ok r) = pass.go (seen_as version file words r.0) (drop r.1 file)
+step_is version file words (Err e) = pass.refuse (file_refusal_number e)
 
-abbrev pub GoodAfter : List ℕ → List ℕ → Step → Type 0
-GoodAfter file words (Step.Refuse number) = Unit {0}
-GoodAfter file words (Step.Go n at) = Good file words n
+abbrev pub GoodAfter : List ℕ → List ℕ → Result (Counts × ℕ) FileRefusal → Type 0
+GoodAfter file words (Ok r) = Good file words r.0
+GoodAfter file words (Err e) = Unit {0}
 
-pub record Stepped (file words : List ℕ) (n : Counts) (t : Text) (words' : List ℕ) (r : Step) : Type 0 where
+pub record Stepped (file words : List ℕ) (n : Counts) (t : Text) (words' : List ℕ) (r : Result (Counts × ℕ) FileRefusal) : Type 0 where
   pub is : (version : ℕ) → step_is version file words' r ≡ pass.step_on (seen_as version file words n) t
   pub good : GoodAfter file words' r
   pub long : length words' ≡ length words

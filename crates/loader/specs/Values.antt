@@ -6,8 +6,6 @@ use Rattle.format.specs.declared.Kind.{Kind}
 use Rattle.format.specs.Fields.{Value, absent, number, text, Read}
 use Rattle.format.specs.Tails.{Three}
 use Rattle.records.specs.Layout.{link_by, name_by, suffix_by, size_by}
-use Rattle.loader.specs.declared.values.SlotWords.{SlotWords}
-use Rattle.loader.specs.declared.values.ThreeWords.{ThreeWords}
 
 -- a field's word, and the high word of an array's size
 pub record Words : Type 0 where
@@ -54,11 +52,13 @@ is_link Kind.UnaryOp = false
 is_link Kind.BinaryOp = false
 is_link Kind.Unused = false
 
-abbrev pub slot_words_is : Kind → Text → SlotWords → Option Read
-slot_words_is k file (SlotWords.Are w e) = Some (record { value = value_by k file (parts w); rest = drop e file })
-slot_words_is k file SlotWords.Wrong = None
+-- a field's words as one number, and where it ends
+abbrev pub slot_words_is : Kind → Text → Option (ℕ × ℕ) → Option Read
+slot_words_is k file None = None
+slot_words_is k file (Some r) = Some (record { value = value_by k file (parts r.0); rest = drop r.1 file })
 
-abbrev pub three_words_is : Kind → Kind → Kind → Text → ThreeWords → Option Three
-three_words_is ka kb kc file (ThreeWords.Are a b c e) =
-    Some (record { a = value_by ka file (parts a); b = value_by kb file (parts b); c = value_by kc file (parts c); rest = drop e file })
-three_words_is ka kb kc file ThreeWords.Wrong = None
+-- the same of three fields
+abbrev pub three_words_is : Kind → Kind → Kind → Text → Option (ℕ × ℕ × ℕ × ℕ) → Option Three
+three_words_is ka kb kc file None = None
+three_words_is ka kb kc file (Some r) =
+    Some (record { a = value_by ka file (parts r.0); b = value_by kb file (parts r.1); c = value_by kc file (parts r.2); rest = drop r.3 file })

@@ -4,22 +4,7 @@ ghost use Rattle.format.specs.Tails.{first_kind, second_kind, is_empty_list, at_
 ghost use Rattle.loader.specs.Items.{is_named, item_here, item_words_is, ItemPut, ItemsPut};
 
 use crate::values;
-use crate::values::SlotWords;
 use format::{Kind, Listed};
-
-// An item's two words, and where it ends.
-#[derive(Clone, Copy)]
-pub enum ItemWords {
-    Are(u32, u32, usize),
-    Wrong,
-}
-
-// How many items there are, and where they end.
-#[derive(Clone, Copy)]
-pub enum ItemsRead {
-    Are(usize, usize),
-    Wrong,
-}
 
 pub const MAX_ITEMS: usize = 2048;
 
@@ -38,9 +23,7 @@ fn second_kind(listed: Listed) -> Kind
     ensures { result ≡ second_kind listed }
 {
     match listed {
-        Listed::Empty => Kind::Nothing,
-        Listed::Numbers => Kind::Nothing,
-        Listed::MaybeNumbers => Kind::Nothing,
+        Listed::Empty | Listed::Numbers | Listed::MaybeNumbers => Kind::Nothing,
         Listed::Fields => Kind::Number,
     }
 }
@@ -48,49 +31,33 @@ fn second_kind(listed: Listed) -> Kind
 pub fn is_empty_list(listed: Listed) -> bool
     ensures { result ≡ is_empty_list listed }
 {
-    match listed {
-        Listed::Empty => true,
-        Listed::Numbers => false,
-        Listed::MaybeNumbers => false,
-        Listed::Fields => false,
-    }
+    matches!(listed, Listed::Empty)
 }
 
 fn is_named(listed: Listed) -> bool
     ensures { result ≡ is_named listed }
 {
-    match listed {
-        Listed::Empty => false,
-        Listed::Numbers => false,
-        Listed::MaybeNumbers => false,
-        Listed::Fields => true,
-    }
+    matches!(listed, Listed::Fields)
 }
 
 // Whether no further field stands at `at`.
 fn at_end(file: &[u8], at: usize) -> bool
     ensures { result ≡ at_end (drop at file.now) }
 {
-    if file.len() <= at {
-        return true;
-    }
-    file[at] != 9
+    file.len() <= at || file[at] != 9
 }
 
-fn item_words(file: &[u8], listed: Listed, at: usize) -> ItemWords
+// An item's two words, and where it ends.
+fn item_words(file: &[u8], listed: Listed, at: usize) -> Option<(u32, u32, usize)>
     requires { length file.now ≤ 65536 }
     ensures { item_words_is listed file.now result ≡ item_here listed (drop at file.now) }
 {
-    let SlotWords::Are(a, ea) = values::slot_words(file, first_kind(listed), at) else {
-        return ItemWords::Wrong;
-    };
-    let SlotWords::Are(b, eb) = values::slot_words(file, second_kind(listed), ea) else {
-        return ItemWords::Wrong;
-    };
+    let (a, ea) = values::slot_words(file, first_kind(listed), at)?;
+    let (b, eb) = values::slot_words(file, second_kind(listed), ea)?;
     if is_named(listed) {
-        return ItemWords::Are((b % values::HIGH) as u32, (a % values::HIGH) as u32, eb);
+        return Some(((b % values::HIGH) as u32, (a % values::HIGH) as u32, eb));
     }
-    ItemWords::Are((a % values::HIGH) as u32, 0, eb)
+    Some(((a % values::HIGH) as u32, 0, eb))
 }
 
 // An item past the last is read but not written: the form of a line is judged before the limit.
@@ -104,40 +71,44 @@ fn put_item(words: &mut [u32], i: usize, value: u32, name: u32)
     }
 }
 
-fn read_list(file: &[u8], listed: Listed, at: usize, words: &mut [u32], first: usize) -> ItemsRead
+// How many items there are, and where they end.
+fn read_list(
+    file: &[u8],
+    listed: Listed,
+    at: usize,
+    words: &mut [u32],
+    first: usize,
+) -> Option<(usize, usize)>
     requires { (length file.now ≤ 65536) × (length words.old ≡ 16384) × (first ≤ 2048) × (is_empty_list listed ≡ false) }
     ensures { ItemsPut file.now words.old listed (drop at file.now) first words.new result }
 {
     let mut e = at;
     let mut i: usize = 0;
-    loop {
-        if at_end(file, e) {
-            return ItemsRead::Are(i, e);
-        }
-        let ItemWords::Are(value, name, end) = item_words(file, listed, e) else {
-            return ItemsRead::Wrong;
-        };
+    while !at_end(file, e) {
+        let (value, name, end) = item_words(file, listed, e)?;
         put_item(words, first + i, value, name);
         i += 1;
         e = end;
     }
+    Some((i, e))
 }
 
+// The same where there may be no list: no items, and none may stand there.
 pub fn read_items(
     file: &[u8],
     listed: Listed,
     at: usize,
     words: &mut [u32],
     first: usize,
-) -> ItemsRead
+) -> Option<(usize, usize)>
     requires { (length file.now ≤ 65536) × (length words.old ≡ 16384) × (first ≤ 2048) }
     ensures { ItemsPut file.now words.old listed (drop at file.now) first words.new result }
 {
-    if is_empty_list(listed) {
-        if at_end(file, at) {
-            return ItemsRead::Are(0, at);
-        }
-        return ItemsRead::Wrong;
+    if !is_empty_list(listed) {
+        return read_list(file, listed, at, words, first);
     }
-    read_list(file, listed, at, words, first)
+    if at_end(file, at) {
+        return Some((0, at));
+    }
+    None
 }

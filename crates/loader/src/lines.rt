@@ -5,16 +5,10 @@ ghost use Rattle.loader.specs.State.{Fine, HasRoom, has_room, counts_after};
 ghost use Rattle.loader.specs.Lines.{LinePut};
 ghost use Rattle.loader.specs.Steps.{is_module, again, repeated, may_stand, Good, Stepped};
 
-use crate::rows::{Counts, LineRead};
+use crate::rows::Counts;
 use crate::{items, rows};
 use format::LineWord;
-
-// A refusal's number, or what is counted then and where the next line begins.
-#[derive(Clone, Copy)]
-pub enum Step {
-    Refuse(u32),
-    Go(Counts, usize),
-}
+use refusals::FileRefusal;
 
 // There is room for one more line of the kind.
 fn has_line_room(word: LineWord, n: Counts) -> bool
@@ -65,13 +59,11 @@ fn is_again(file: &[u8], words: &[u32], n: u32) -> bool
     ensures { result ≡ again file.now words.now n }
 {
     let name = records::module_name(words, n);
-    let mut m: u32 = 0;
-    while m < n {
+    for m in 0..n {
         let other = records::module_name(words, m);
         if semantic_index::names::same_name(file, other, name) {
             return true;
         }
-        m += 1;
     }
     false
 }
@@ -79,35 +71,21 @@ fn is_again(file: &[u8], words: &[u32], n: u32) -> bool
 fn is_module(word: LineWord) -> bool
     ensures { result ≡ is_module word }
 {
-    match word {
-        LineWord::M => true,
-        LineWord::S => false,
-        LineWord::T => false,
-        LineWord::D => false,
-        LineWord::E => false,
-        LineWord::Q => false,
-        LineWord::Other => false,
-    }
+    matches!(word, LineWord::M)
 }
 
 // "A module name again": the name of a module's line stands in row n.
 fn is_repeated(file: &[u8], words: &[u32], word: LineWord, n: u32) -> bool
     ensures { result ≡ repeated file.now words.now word n }
 {
-    if is_module(word) {
-        return is_again(file, words, n);
-    }
-    false
+    is_module(word) && is_again(file, words, n)
 }
 
 // Whether a line of the kind may stand here.
 fn may_stand(file: &[u8], words: &[u32], word: LineWord, stage: u32, n: u32) -> bool
     ensures { result ≡ may_stand file.now words.now word stage n }
 {
-    if is_repeated(file, words, word, n) {
-        return false;
-    }
-    in_place(word, stage)
+    in_place(word, stage) && !is_repeated(file, words, word, n)
 }
 
 // The counts with one more record of the kind and its items.
@@ -119,31 +97,25 @@ fn counted(word: LineWord, n: Counts, count: usize) -> Counts
     r.stage = stage_of(word);
     r.items = n.items + count;
     match word {
-        LineWord::M => {
-            r.modules = n.modules + 1;
-        }
-        LineWord::S => {
-            r.scopes = n.scopes + 1;
-        }
-        LineWord::T => {
-            r.types = n.types + 1;
-        }
-        LineWord::D => {
-            r.definitions = n.definitions + 1;
-        }
-        LineWord::E => {
-            r.expressions = n.expressions + 1;
-        }
-        LineWord::Q => {
-            r.questions = n.questions + 1;
-        }
+        LineWord::M => r.modules = n.modules + 1,
+        LineWord::S => r.scopes = n.scopes + 1,
+        LineWord::T => r.types = n.types + 1,
+        LineWord::D => r.definitions = n.definitions + 1,
+        LineWord::E => r.expressions = n.expressions + 1,
+        LineWord::Q => r.questions = n.questions + 1,
         LineWord::Other => {}
     }
     r
 }
 
 // The line of a kind, behind its first field.
-fn read_line(file: &[u8], word: LineWord, at: usize, words: &mut [u32], n: Counts) -> LineRead
+fn read_line(
+    file: &[u8],
+    word: LineWord,
+    at: usize,
+    words: &mut [u32],
+    n: Counts,
+) -> Option<(usize, usize)>
     requires { Fine file.now words.old n × HasRoom word n }
     ensures { LinePut word file.now words.old n (drop at file.now) words.new result }
 {
@@ -154,34 +126,36 @@ fn read_line(file: &[u8], word: LineWord, at: usize, words: &mut [u32], n: Count
         LineWord::D => rows::read_definition(file, at, words, n),
         LineWord::E => rows::read_expression(file, at, words, n),
         LineWord::Q => rows::read_question(file, at, words, n),
-        LineWord::Other => LineRead::Wrong,
+        LineWord::Other => None,
     }
 }
 
-// The line that begins at `at`.
-pub fn step_on(file: &[u8], at: usize, words: &mut [u32], n: Counts) -> Step
+// The line that begins at `at`: a refusal, or what is counted then and where the next line begins.
+pub fn step_on(
+    file: &[u8],
+    at: usize,
+    words: &mut [u32],
+    n: Counts,
+) -> Result<(Counts, usize), FileRefusal>
     requires { Good file.now words.old n × (at ≤ length file.now) }
     ensures { Stepped file.now words.old n (drop at file.now) words.new result }
 {
     let p = words::field_end(file, at);
-    let word = words::line_word(&file[at..p]);
+    let word: LineWord = words::word(&file[at..p]);
     if !has_line_room(word, n) {
-        return Step::Refuse(3);
+        return Err(FileRefusal::Limit);
     }
-    let LineRead::Is(count, end) = read_line(file, word, p, words, n) else {
-        return Step::Refuse(4);
+    let Some((count, end)) = read_line(file, word, p, words, n) else {
+        return Err(FileRefusal::Form);
     };
     if items::MAX_ITEMS - n.items < count {
-        return Step::Refuse(3);
+        return Err(FileRefusal::Limit);
     }
     if !may_stand(file, words, word, n.stage, n.modules as u32) {
-        return Step::Refuse(4);
+        return Err(FileRefusal::Form);
     }
-    if file.len() <= end {
-        return Step::Refuse(4);
+    if file.len() <= end || file[end] != 10 {
+        return Err(FileRefusal::Form);
     }
-    if file[end] != 10 {
-        return Step::Refuse(4);
-    }
-    Step::Go(counted(word, n, count), end + 1)
+    Ok((counted(word, n, count), end + 1))
 }

@@ -3,64 +3,55 @@ ghost use Rattle.std.specs.Prelude.{◌≡◌, ◌+◌, ◌≤◌, length, drop}
 ghost use Rattle.loader.specs.State.{Fine};
 ghost use Rattle.loader.specs.Pass.{Finished, FirstPut};
 
-use crate::lines::Step;
 use crate::rows::Counts;
 use crate::{lines, rows};
-
-// What the pass ends in: all lines read, or a refusal with its line.
-#[derive(Clone, Copy)]
-pub enum First {
-    Read,
-    Wrong(u32, u32),
-}
+use refusals::FileRefused;
 
 // The header, and the row behind the last module's.
 fn finish(file: &[u8], words: &mut [u32], n: Counts, version: u32)
     requires { Fine file.now words.old n }
     ensures { Finished words.old n version words.new }
 {
-    rows::put_four(
+    rows::put(
         words,
         0,
-        n.modules as u32,
-        n.questions as u32,
-        n.items as u32,
-        version,
+        &[
+            n.modules as u32,
+            n.questions as u32,
+            n.items as u32,
+            version,
+        ],
     );
     let row = records::MODULES + 8 * n.modules;
-    rows::put_four(
+    rows::put(
         words,
         row + 1,
-        n.scopes as u32,
-        n.types as u32,
-        n.definitions as u32,
-        n.expressions as u32,
+        &[
+            n.scopes as u32,
+            n.types as u32,
+            n.definitions as u32,
+            n.expressions as u32,
+        ],
     );
 }
 
 // The lines from `from` on, the first of which is line 2.
-pub fn first_pass(file: &[u8], words: &mut [u32], from: usize, version: u32) -> First
+pub fn first_pass(
+    file: &[u8],
+    words: &mut [u32],
+    from: usize,
+    version: u32,
+) -> Result<(), FileRefused>
     requires { (length file.now ≤ 65536) × (length words.old ≡ 16384) × (from ≤ length file.now) }
     ensures { FirstPut file.now words.old version (drop from file.now) words.new result }
 {
-    let mut n = Counts {
-        stage: 0,
-        modules: 0,
-        scopes: 0,
-        types: 0,
-        definitions: 0,
-        expressions: 0,
-        questions: 0,
-        items: 0,
-    };
+    let mut n = Counts::default();
     let mut at = from;
     let mut line: u32 = 2;
     while at < file.len() {
         match lines::step_on(file, at, words, n) {
-            Step::Refuse(number) => {
-                return First::Wrong(number, line);
-            }
-            Step::Go(m, e) => {
+            Err(refusal) => return Err(FileRefused { refusal, line }),
+            Ok((m, e)) => {
                 n = m;
                 at = e;
             }
@@ -68,5 +59,5 @@ pub fn first_pass(file: &[u8], words: &mut [u32], from: usize, version: u32) -> 
         line += 1;
     }
     finish(file, words, n, version);
-    First::Read
+    Ok(())
 }

@@ -6,14 +6,14 @@ ghost use Rattle.records.specs.Promises.{Put};
 ghost use Rattle.loader.specs.State.{Fine, HasRoom};
 ghost use Rattle.loader.specs.Lines.{TailPut, is_size, last_word, scope_fits, path_fits, OriginIs, LinePut};
 
-use crate::items::ItemsRead;
-use crate::values::{HIGH, SlotWords, ThreeWords};
+use crate::values::HIGH;
 use crate::{items, shapes, values};
-use fields::Word;
-use format::{Kind, ScopeWord, Shape};
+use format::{
+    DefinitionWord, Kind, NodeWord, OriginWord, QuestionWord, ScopeWord, Shape, TypeWord,
+};
 
 // What was read: the stage of the last line, and how many records of each kind and items there are.
-#[derive(Clone, Copy)]
+#[derive(Clone, Copy, Default)]
 pub struct Counts {
     pub stage: u32,
     pub modules: usize,
@@ -36,19 +36,6 @@ pub struct Tail {
     pub end: usize,
 }
 
-#[derive(Clone, Copy)]
-pub enum TailRead {
-    Is(Tail),
-    Wrong,
-}
-
-// A line that was read: how many items its list has, and where its fields end.
-#[derive(Clone, Copy)]
-pub enum LineRead {
-    Is(usize, usize),
-    Wrong,
-}
-
 // ------------------------------------------------------------------ what stands behind a word
 
 // The word of a list. Of more items than there may be in all it has no meaning.
@@ -62,21 +49,13 @@ fn list_word(first: usize, count: usize) -> u32
     (first + 65536 * count) as u32
 }
 
-fn read_tail(file: &[u8], shape: Shape, at: usize, words: &mut [u32], first: usize) -> TailRead
+fn read_tail(file: &[u8], shape: Shape, at: usize, words: &mut [u32], first: usize) -> Option<Tail>
     requires { (length file.now ≤ 65536) × (length words.old ≡ 16384) × (first ≤ 2048) }
     ensures { TailPut file.now words.old shape (drop at file.now) first words.new result }
 {
-    let ka = shape.a;
-    let kb = shape.b;
-    let kc = shape.c;
-    let listed = shape.list;
-    let ThreeWords::Are(a, b, c, e) = values::three_words(file, ka, kb, kc, at) else {
-        return TailRead::Wrong;
-    };
-    let ItemsRead::Are(count, end) = items::read_items(file, listed, e, words, first) else {
-        return TailRead::Wrong;
-    };
-    TailRead::Is(Tail {
+    let (a, b, c, e) = values::three_words(file, shape.a, shape.b, shape.c, at)?;
+    let (count, end) = items::read_items(file, shape.list, e, words, first)?;
+    Some(Tail {
         a,
         b,
         c,
@@ -89,68 +68,54 @@ fn read_tail(file: &[u8], shape: Shape, at: usize, words: &mut [u32], first: usi
 fn is_size(kind: Kind) -> bool
     ensures { result ≡ is_size kind }
 {
-    match kind {
-        Kind::Nothing => false,
-        Kind::Number => false,
-        Kind::MaybeNumber => false,
-        Kind::Position => false,
-        Kind::Size => true,
-        Kind::Name => false,
-        Kind::MaybeName => false,
-        Kind::UnaryOp => false,
-        Kind::BinaryOp => false,
-        Kind::Unused => false,
-    }
+    matches!(kind, Kind::Size)
 }
 
 // The last word of a row of T or E: a list's, a size's high word, or the third field's.
 fn last_word(shape: Shape, tail: Tail) -> u32
     ensures { result ≡ last_word shape tail }
 {
-    let listed = shape.list;
-    if items::is_empty_list(listed) {
-        let kb = shape.b;
-        if is_size(kb) {
-            return (tail.b / HIGH) as u32;
-        }
-        return (tail.c % HIGH) as u32;
+    if !items::is_empty_list(shape.list) {
+        return tail.list;
     }
-    tail.list
+    if is_size(shape.b) {
+        return (tail.b / HIGH) as u32;
+    }
+    (tail.c % HIGH) as u32
 }
 
 // ------------------------------------------------------------------ rows
 
-fn put_two(words: &mut [u32], at: usize, a: u32, b: u32)
-    requires { at + 2 ≤ length words.old }
-    ensures { Put words.old at (a ∷ b ∷ []) words.new }
+// Puts the words of a row from `at` on.
+pub fn put(words: &mut [u32], at: usize, row: &[u32])
+    requires { at + length row.now ≤ length words.old }
+    ensures { Put words.old at row.now words.new }
 {
-    words[at] = a;
-    words[at + 1] = b;
+    words[at..at + row.len()].copy_from_slice(row);
 }
 
-pub fn put_four(words: &mut [u32], at: usize, a: u32, b: u32, c: u32, d: u32)
-    requires { at + 4 ≤ length words.old }
-    ensures { Put words.old at (a ∷ b ∷ c ∷ d ∷ []) words.new }
-{
-    words[at] = a;
-    words[at + 1] = b;
-    words[at + 2] = c;
-    words[at + 3] = d;
-}
+// Each of the six gives how many items the line's list has, and where its fields end.
 
 // M: the name, and where the module's rows of each kind begin.
-pub fn read_module(file: &[u8], at: usize, words: &mut [u32], n: Counts) -> LineRead
+pub fn read_module(file: &[u8], at: usize, words: &mut [u32], n: Counts) -> Option<(usize, usize)>
     requires { Fine file.now words.old n × HasRoom LineWord.M n }
     ensures { LinePut LineWord.M file.now words.old n (drop at file.now) words.new result }
 {
-    let TailRead::Is(tail) = read_tail(file, shapes::module_shape(), at, words, n.items) else {
-        return LineRead::Wrong;
-    };
+    let tail = read_tail(file, shapes::module_shape(), at, words, n.items)?;
     let row = records::MODULES + 8 * n.modules;
-    put_two(words, row, (tail.a % HIGH) as u32, n.scopes as u32);
-    put_two(words, row + 2, n.types as u32, n.definitions as u32);
-    put_two(words, row + 4, n.expressions as u32, 0);
-    LineRead::Is(tail.count, tail.end)
+    put(
+        words,
+        row,
+        &[
+            (tail.a % HIGH) as u32,
+            n.scopes as u32,
+            n.types as u32,
+            n.definitions as u32,
+            n.expressions as u32,
+            0,
+        ],
+    );
+    Some((tail.count, tail.end))
 }
 
 fn scope_fits(parent: u32, word: ScopeWord) -> bool
@@ -158,263 +123,199 @@ fn scope_fits(parent: u32, word: ScopeWord) -> bool
 {
     match word {
         ScopeWord::Module => parent == 0,
-        ScopeWord::Function => parent != 0,
-        ScopeWord::Block => parent != 0,
-        ScopeWord::Loop => parent != 0,
+        ScopeWord::Function | ScopeWord::Block | ScopeWord::Loop => parent != 0,
         ScopeWord::Other => false,
     }
 }
 
 // S
-pub fn read_scope(file: &[u8], at: usize, words: &mut [u32], n: Counts) -> LineRead
+pub fn read_scope(file: &[u8], at: usize, words: &mut [u32], n: Counts) -> Option<(usize, usize)>
     requires { Fine file.now words.old n × HasRoom LineWord.S n }
     ensures { LinePut LineWord.S file.now words.old n (drop at file.now) words.new result }
 {
-    let SlotWords::Are(parent, e) = values::slot_words(file, Kind::MaybeNumber, at) else {
-        return LineRead::Wrong;
-    };
-    let Word::Is(p, q) = fields::word_here(file, e) else {
-        return LineRead::Wrong;
-    };
-    let word = words::scope_word(&file[p..q]);
-    let TailRead::Is(tail) = read_tail(file, shapes::bare(), q, words, n.items) else {
-        return LineRead::Wrong;
-    };
+    let (parent, e) = values::slot_words(file, Kind::MaybeNumber, at)?;
+    let (p, q) = fields::word_here(file, e)?;
+    let word: ScopeWord = words::word(&file[p..q]);
+    let tail = read_tail(file, shapes::bare(), q, words, n.items)?;
     if !scope_fits((parent % HIGH) as u32, word) {
-        return LineRead::Wrong;
+        return None;
     }
-    put_two(
+    put(
         words,
         records::SCOPES + 2 * n.scopes,
-        (parent % HIGH) as u32,
-        shapes::scope_number(word),
+        &[(parent % HIGH) as u32, shapes::scope_number(word)],
     );
-    LineRead::Is(tail.count, tail.end)
+    Some((tail.count, tail.end))
 }
 
 // T
-pub fn read_type(file: &[u8], at: usize, words: &mut [u32], n: Counts) -> LineRead
+pub fn read_type(file: &[u8], at: usize, words: &mut [u32], n: Counts) -> Option<(usize, usize)>
     requires { Fine file.now words.old n × HasRoom LineWord.T n }
     ensures { LinePut LineWord.T file.now words.old n (drop at file.now) words.new result }
 {
-    let Word::Is(p, q) = fields::word_here(file, at) else {
-        return LineRead::Wrong;
-    };
-    let word = words::type_word(&file[p..q]);
-    let kind = shapes::type_number(word);
+    let (p, q) = fields::word_here(file, at)?;
+    let word: TypeWord = words::word(&file[p..q]);
     let shape = shapes::type_shape(word);
-    let TailRead::Is(tail) = read_tail(file, shape, q, words, n.items) else {
-        return LineRead::Wrong;
-    };
-    if kind == 7 {
-        return LineRead::Wrong;
-    }
-    put_four(
+    let tail = read_tail(file, shape, q, words, n.items)?;
+    let kind = shapes::type_number(word)?;
+    put(
         words,
         records::TYPE_EXPRS + 4 * n.types,
-        kind,
-        (tail.a % HIGH) as u32,
-        (tail.b % HIGH) as u32,
-        last_word(shape, tail),
+        &[
+            kind,
+            (tail.a % HIGH) as u32,
+            (tail.b % HIGH) as u32,
+            last_word(shape, tail),
+        ],
     );
-    LineRead::Is(tail.count, tail.end)
+    Some((tail.count, tail.end))
 }
+
+// The number of `let`.
+const LET: u32 = 3;
 
 // A let: "v is the destructured value; with `-` there is no path".
 fn path_fits(kind: u32, value: u32, count: usize) -> bool
     ensures { result ≡ path_fits kind value count }
 {
-    if kind == 3 {
-        if value == 0 {
-            return count == 0;
-        }
-    }
-    true
+    kind != LET || value != 0 || count == 0
 }
 
 // D
-pub fn read_definition(file: &[u8], at: usize, words: &mut [u32], n: Counts) -> LineRead
+pub fn read_definition(
+    file: &[u8],
+    at: usize,
+    words: &mut [u32],
+    n: Counts,
+) -> Option<(usize, usize)>
     requires { Fine file.now words.old n × HasRoom LineWord.D n }
     ensures { LinePut LineWord.D file.now words.old n (drop at file.now) words.new result }
 {
-    let ThreeWords::Are(scope, name, name_start, e) = values::three_words(
+    let (scope, name, name_start, e) = values::three_words(
         file,
         Kind::Number,
         Kind::Name,
         Kind::Position,
         at,
-    ) else {
-        return LineRead::Wrong;
-    };
-    let ThreeWords::Are(name_end, full_start, full_end, f) = values::three_words(
+    )?;
+    let (name_end, full_start, full_end, f) = values::three_words(
         file,
         Kind::Position,
         Kind::Position,
         Kind::Position,
         e,
-    ) else {
-        return LineRead::Wrong;
-    };
-    let Word::Is(p, q) = fields::word_here(file, f) else {
-        return LineRead::Wrong;
-    };
-    let word = words::definition_word(&file[p..q]);
-    let kind = shapes::definition_number(word);
-    let TailRead::Is(tail) = read_tail(file, shapes::definition_shape(word), q, words, n.items)
-    else {
-        return LineRead::Wrong;
-    };
-    if kind == 7 {
-        return LineRead::Wrong;
-    }
+    )?;
+    let (p, q) = fields::word_here(file, f)?;
+    let word: DefinitionWord = words::word(&file[p..q]);
+    let tail = read_tail(file, shapes::definition_shape(word), q, words, n.items)?;
+    let kind = shapes::definition_number(word)?;
     if !path_fits(kind, (tail.c % HIGH) as u32, tail.count) {
-        return LineRead::Wrong;
+        return None;
     }
     let row = records::DEFINITIONS + 12 * n.definitions;
-    put_four(
+    put(
         words,
         row,
-        kind,
-        (scope % HIGH) as u32,
-        (name % HIGH) as u32,
-        (name_start % HIGH) as u32,
+        &[
+            kind,
+            (scope % HIGH) as u32,
+            (name % HIGH) as u32,
+            (name_start % HIGH) as u32,
+            (name_end % HIGH) as u32,
+            (full_start % HIGH) as u32,
+            (full_end % HIGH) as u32,
+            (tail.a % HIGH) as u32,
+            (tail.b % HIGH) as u32,
+            (tail.c % HIGH) as u32,
+            tail.list,
+            0,
+        ],
     );
-    put_four(
-        words,
-        row + 4,
-        (name_end % HIGH) as u32,
-        (full_start % HIGH) as u32,
-        (full_end % HIGH) as u32,
-        (tail.a % HIGH) as u32,
-    );
-    put_four(
-        words,
-        row + 8,
-        (tail.b % HIGH) as u32,
-        (tail.c % HIGH) as u32,
-        tail.list,
-        0,
-    );
-    LineRead::Is(tail.count, tail.end)
+    Some((tail.count, tail.end))
 }
 
 // Q
-pub fn read_question(file: &[u8], at: usize, words: &mut [u32], n: Counts) -> LineRead
+pub fn read_question(file: &[u8], at: usize, words: &mut [u32], n: Counts) -> Option<(usize, usize)>
     requires { Fine file.now words.old n × HasRoom LineWord.Q n }
     ensures { LinePut LineWord.Q file.now words.old n (drop at file.now) words.new result }
 {
-    let Word::Is(p, q) = fields::word_here(file, at) else {
-        return LineRead::Wrong;
-    };
-    let word = words::question_word(&file[p..q]);
-    let kind = shapes::question_number(word);
-    let TailRead::Is(tail) = read_tail(file, shapes::question_shape(word), q, words, n.items) else {
-        return LineRead::Wrong;
-    };
-    if kind == 4 {
-        return LineRead::Wrong;
-    }
-    put_four(
+    let (p, q) = fields::word_here(file, at)?;
+    let word: QuestionWord = words::word(&file[p..q]);
+    let tail = read_tail(file, shapes::question_shape(word), q, words, n.items)?;
+    let kind = shapes::question_number(word)?;
+    put(
         words,
         records::QUESTIONS + 4 * n.questions,
-        kind,
-        (tail.a % HIGH) as u32,
-        (tail.b % HIGH) as u32,
-        (tail.c % HIGH) as u32,
+        &[
+            kind,
+            (tail.a % HIGH) as u32,
+            (tail.b % HIGH) as u32,
+            (tail.c % HIGH) as u32,
+        ],
     );
-    LineRead::Is(tail.count, tail.end)
+    Some((tail.count, tail.end))
 }
 
 // E, behind its head: the origin's number, link and value, and where they end.
-#[derive(Clone, Copy)]
-pub enum OriginRead {
-    Is(u32, u32, u32, usize),
-    Wrong,
-}
-
-fn read_origin(file: &[u8], at: usize) -> OriginRead
+fn read_origin(file: &[u8], at: usize) -> Option<(u32, u32, u32, usize)>
     requires { length file.now ≤ 65536 }
     ensures { OriginIs file.now (drop at file.now) result }
 {
-    let Word::Is(p, q) = fields::word_here(file, at) else {
-        return OriginRead::Wrong;
-    };
-    let word = words::origin_word(&file[p..q]);
-    let kind = shapes::origin_number(word);
+    let (p, q) = fields::word_here(file, at)?;
+    let word: OriginWord = words::word(&file[p..q]);
     let shape = shapes::origin_shape(word);
-    let ka = shape.a;
-    let kb = shape.b;
-    let ThreeWords::Are(link, value, _, e) = values::three_words(file, ka, kb, Kind::Nothing, q)
-    else {
-        return OriginRead::Wrong;
-    };
-    if kind == 6 {
-        return OriginRead::Wrong;
-    }
-    OriginRead::Is(kind, (link % HIGH) as u32, (value % HIGH) as u32, e)
+    let (link, value, _, e) = values::three_words(file, shape.a, shape.b, Kind::Nothing, q)?;
+    let kind = shapes::origin_number(word)?;
+    Some((kind, (link % HIGH) as u32, (value % HIGH) as u32, e))
 }
 
 // E
-pub fn read_expression(file: &[u8], at: usize, words: &mut [u32], n: Counts) -> LineRead
+pub fn read_expression(
+    file: &[u8],
+    at: usize,
+    words: &mut [u32],
+    n: Counts,
+) -> Option<(usize, usize)>
     requires { Fine file.now words.old n × HasRoom LineWord.E n }
     ensures { LinePut LineWord.E file.now words.old n (drop at file.now) words.new result }
 {
-    let ThreeWords::Are(scope, start, end, e) = values::three_words(
+    let (scope, start, end, e) = values::three_words(
         file,
         Kind::Number,
         Kind::Position,
         Kind::Position,
         at,
-    ) else {
-        return LineRead::Wrong;
-    };
-    let ThreeWords::Are(expected, definition, _, f) = values::three_words(
+    )?;
+    let (expected, definition, _, f) = values::three_words(
         file,
         Kind::MaybeNumber,
         Kind::MaybeNumber,
         Kind::Nothing,
         e,
-    ) else {
-        return LineRead::Wrong;
-    };
-    let OriginRead::Is(origin, link, value, g) = read_origin(file, f) else {
-        return LineRead::Wrong;
-    };
-    let Word::Is(p, q) = fields::word_here(file, g) else {
-        return LineRead::Wrong;
-    };
-    let word = words::node_word(&file[p..q]);
-    let node = shapes::node_number(word);
+    )?;
+    let (origin, link, value, g) = read_origin(file, f)?;
+    let (p, q) = fields::word_here(file, g)?;
+    let word: NodeWord = words::word(&file[p..q]);
     let shape = shapes::node_shape(word);
-    let TailRead::Is(tail) = read_tail(file, shape, q, words, n.items) else {
-        return LineRead::Wrong;
-    };
-    if node == 16 {
-        return LineRead::Wrong;
-    }
+    let tail = read_tail(file, shape, q, words, n.items)?;
+    let node = shapes::node_number(word)?;
     let row = records::EXPRESSIONS + 11 * n.expressions;
-    put_four(
+    put(
         words,
         row,
-        node + 256 * origin,
-        (scope % HIGH) as u32,
-        (start % HIGH) as u32,
-        (end % HIGH) as u32,
+        &[
+            node + 256 * origin,
+            (scope % HIGH) as u32,
+            (start % HIGH) as u32,
+            (end % HIGH) as u32,
+            (expected % HIGH) as u32,
+            (definition % HIGH) as u32,
+            link,
+            value,
+            (tail.a % HIGH) as u32,
+            (tail.b % HIGH) as u32,
+            last_word(shape, tail),
+        ],
     );
-    put_four(
-        words,
-        row + 4,
-        (expected % HIGH) as u32,
-        (definition % HIGH) as u32,
-        link,
-        value,
-    );
-    put_two(
-        words,
-        row + 8,
-        (tail.a % HIGH) as u32,
-        (tail.b % HIGH) as u32,
-    );
-    words[row + 10] = last_word(shape, tail);
-    LineRead::Is(tail.count, tail.end)
+    Some((tail.count, tail.end))
 }

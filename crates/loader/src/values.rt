@@ -4,41 +4,16 @@ ghost use Rattle.format.specs.Fields.{slot};
 ghost use Rattle.format.specs.Tails.{three};
 ghost use Rattle.loader.specs.Values.{is_link, slot_words_is, three_words_is};
 
-use fields::{Slot, Value};
+use fields::Value;
 use format::Kind;
 
 // A number from here on has a high word.
 pub const HIGH: u64 = 4294967296;
 
-// A field's words as one number, the low word first, and where the field ends. Only an array's size has a high word.
-#[derive(Clone, Copy)]
-pub enum SlotWords {
-    Are(u64, usize),
-    Wrong,
-}
-
-// Three fields' words, and where the last ends.
-#[derive(Clone, Copy)]
-pub enum ThreeWords {
-    Are(u64, u64, u64, usize),
-    Wrong,
-}
-
 fn is_link(kind: Kind) -> bool
     ensures { result ≡ is_link kind }
 {
-    match kind {
-        Kind::Nothing => false,
-        Kind::Number => false,
-        Kind::MaybeNumber => true,
-        Kind::Position => false,
-        Kind::Size => false,
-        Kind::Name => false,
-        Kind::MaybeName => false,
-        Kind::UnaryOp => false,
-        Kind::BinaryOp => false,
-        Kind::Unused => false,
-    }
+    matches!(kind, Kind::MaybeNumber)
 }
 
 // The words of a name: where it begins, and how long it is.
@@ -49,37 +24,34 @@ fn name_words(start: usize, count: usize) -> u64
     (start + 65536 * count) as u64
 }
 
-pub fn slot_words(file: &[u8], kind: Kind, at: usize) -> SlotWords
+// A field's words as one number, the low word first, and where the field ends. Only an array's size has a high word.
+pub fn slot_words(file: &[u8], kind: Kind, at: usize) -> Option<(u64, usize)>
     requires { length file.now ≤ 65536 }
     ensures { slot_words_is kind file.now result ≡ slot kind (drop at file.now) }
 {
-    let Slot::Is(v, e) = fields::read_slot(file, kind, at) else {
-        return SlotWords::Wrong;
+    let slot = fields::read_slot(file, kind, at)?;
+    let word = match slot.value {
+        Value::Absent => 0,
+        Value::Number(n) if is_link(kind) => n + 1,
+        Value::Number(n) => n,
+        Value::Text(p, n) => name_words(p, n),
     };
-    match v {
-        Value::Absent => SlotWords::Are(0, e),
-        Value::Number(n) => {
-            if is_link(kind) {
-                return SlotWords::Are(n + 1, e);
-            }
-            SlotWords::Are(n, e)
-        }
-        Value::Text(p, n) => SlotWords::Are(name_words(p, n), e),
-    }
+    Some((word, slot.end))
 }
 
-pub fn three_words(file: &[u8], ka: Kind, kb: Kind, kc: Kind, at: usize) -> ThreeWords
+// Three fields' words, and where the last ends.
+pub fn three_words(
+    file: &[u8],
+    ka: Kind,
+    kb: Kind,
+    kc: Kind,
+    at: usize,
+) -> Option<(u64, u64, u64, usize)>
     requires { length file.now ≤ 65536 }
     ensures { three_words_is ka kb kc file.now result ≡ three ka kb kc (drop at file.now) }
 {
-    let SlotWords::Are(a, ea) = slot_words(file, ka, at) else {
-        return ThreeWords::Wrong;
-    };
-    let SlotWords::Are(b, eb) = slot_words(file, kb, ea) else {
-        return ThreeWords::Wrong;
-    };
-    let SlotWords::Are(c, ec) = slot_words(file, kc, eb) else {
-        return ThreeWords::Wrong;
-    };
-    ThreeWords::Are(a, b, c, ec)
+    let (a, ea) = slot_words(file, ka, at)?;
+    let (b, eb) = slot_words(file, kb, ea)?;
+    let (c, ec) = slot_words(file, kc, eb)?;
+    Some((a, b, c, ec))
 }

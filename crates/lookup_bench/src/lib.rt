@@ -4,17 +4,13 @@
 // else the number and 1.
 #![tactic(auto)]
 
-ghost use Rattle.std.specs.Prelude.{◌≡◌, ℕ, List};
+ghost use Rattle.std.specs.Prelude.{◌≡◌, ℕ, List, option_map};
 ghost use Rattle.model.specs.Lookups.{module_at, module_by_name, latest_definition_index_by_name_in_chain};
 ghost use Rattle.model.specs.Lookups.{resolve_name_at_position, definition_for_identifier_expr, first_function_around};
 ghost use Rattle.records.specs.Layout.{bytes_at, index_of};
-ghost use Rattle.records.specs.Meaning.{definition_link_of};
-ghost use Rattle.semantic_index.specs.Meaning.{module_link_of};
 ghost use Rattle.lookup_bench.specs.Numbers.{link_number, module_to, in_module, LoadNumber};
 
-use loader::Loaded;
-use records::{DefinitionLink, ExpressionId, FileScopeId, Name};
-use semantic_index::ModuleLink;
+use records::{ExpressionId, FileScopeId, Name, RecordNumber};
 
 // 0 for an accepted file, else the refusal's number. The words of the index are the first 16,384 of the buffer.
 #[unsafe(no_mangle)]
@@ -22,38 +18,26 @@ pub extern "C" fn bench_load(file: &[u8], records: &mut [u32]) -> u32
     ensures { LoadNumber file.now records.old records.new result }
 {
     match loader::load(file, records) {
-        Loaded::Accepted => 0,
-        Loaded::Refused(number, _) => number,
+        Ok(()) => 0,
+        Err(refused) => refused.refusal.number(),
     }
 }
 
-fn definition_number(link: DefinitionLink) -> u64
-    ensures { result ≡ link_number (definition_link_of link) }
+// A link as a number.
+fn link_number<R: RecordNumber>(link: Option<R>) -> u64
+    ensures { result ≡ link_number (option_map R.number link) }
 {
     match link {
-        DefinitionLink::Absent => 0,
-        DefinitionLink::To(d) => (d.0 as u64) + 1,
-    }
-}
-
-fn module_number(link: ModuleLink) -> u64
-    ensures { result ≡ link_number (module_link_of link) }
-{
-    match link {
-        ModuleLink::Absent => 0,
-        ModuleLink::To(m) => (m as u64) + 1,
+        None => 0,
+        Some(n) => (n.get() as u64) + 1,
     }
 }
 
 // The module of a number, if the index has one: the words behind those of its modules may be an earlier file's.
-fn module_at(words: &[u32], m: u32) -> ModuleLink
+fn module_at(words: &[u32], m: u32) -> Option<u32>
     ensures { (file : List ℕ) → module_at (index_of file words.now) m ≡ module_to file words.now result }
 {
-    if records::has_module(words, m) {
-        ModuleLink::To(m)
-    } else {
-        ModuleLink::Absent
-    }
+    records::has_module(words, m).then_some(m)
 }
 
 #[unsafe(no_mangle)]
@@ -62,7 +46,7 @@ pub extern "C" fn bench_module_by_name(file: &[u8], words: &[u32], start: u32, l
         ≡ link_number (module_by_name (index_of file.now words.now)
         (bytes_at file.now start length)) }
 {
-    module_number(semantic_index::module_by_name(file, words, Name { start, length }))
+    link_number(semantic_index::module_by_name(file, words, Name { start, length }))
 }
 
 #[unsafe(no_mangle)]
@@ -78,10 +62,10 @@ pub extern "C" fn bench_latest_definition_index_by_name_in_chain(
         ≡ link_number (in_module (index_of file.now words.now) m
         (λ the_module. latest_definition_index_by_name_in_chain the_module s (bytes_at file.now start length))) }
 {
-    let ModuleLink::To(n) = module_at(words, m) else {
+    let Some(n) = module_at(words, m) else {
         return 0;
     };
-    definition_number(semantic_index::latest_definition_index_by_name_in_chain(
+    link_number(semantic_index::latest_definition_index_by_name_in_chain(
         file,
         words,
         n,
@@ -106,10 +90,10 @@ pub extern "C" fn bench_resolve_name_at_position(
         ≡ link_number (in_module (index_of file.now words.now) m
         (λ the_module. resolve_name_at_position the_module (bytes_at file.now start length) s from to)) }
 {
-    let ModuleLink::To(n) = module_at(words, m) else {
+    let Some(n) = module_at(words, m) else {
         return 0;
     };
-    definition_number(semantic_index::resolve_name_at_position(
+    link_number(semantic_index::resolve_name_at_position(
         file,
         words,
         n,
@@ -126,10 +110,10 @@ pub extern "C" fn bench_definition_for_identifier_expr(words: &[u32], m: u32, e:
         ≡ link_number (in_module (index_of file words.now) m
         (λ the_module. definition_for_identifier_expr the_module e)) }
 {
-    let ModuleLink::To(n) = module_at(words, m) else {
+    let Some(n) = module_at(words, m) else {
         return 0;
     };
-    definition_number(semantic_index::definition_for_identifier_expr(words, n, ExpressionId(e)))
+    link_number(semantic_index::definition_for_identifier_expr(words, n, ExpressionId(e)))
 }
 
 #[unsafe(no_mangle)]
@@ -137,8 +121,8 @@ pub extern "C" fn bench_first_function_around(words: &[u32], m: u32, s: u32) -> 
     ensures { (file : List ℕ) → result
         ≡ link_number (in_module (index_of file words.now) m (λ the_module. first_function_around the_module s)) }
 {
-    let ModuleLink::To(n) = module_at(words, m) else {
+    let Some(n) = module_at(words, m) else {
         return 0;
     };
-    definition_number(semantic_index::first_function_around(words, n, FileScopeId(s)))
+    link_number(semantic_index::first_function_around(words, n, FileScopeId(s)))
 }

@@ -1,16 +1,19 @@
 -- Which arm of a program a value's variant takes, and results that are turned over once more. Assumes nothing.
+use Rattle.std.specs.Prelude.{Result, Ok, Err}
+use Rattle.refusals.specs.declared.Refusal.{Refusal}
+use Rattle.type_resolution.specs.State.{answer_by}
+use Rattle.records.specs.declared.DefinitionIndex.{DefinitionIndex}
 use mathlib.Core.Path.{◌≡◌, refl, sym, ap, subst, subst⁻¹, ◌∙◌}
 use mathlib.Core.Bool.{Bool, true, false, not}
 use Prim.Native.Nat.{ℕ, ◌<◌}
 use native.Mathlib.Omega.{arith}
 use mathlib.Core.List.{List}
-use Rattle.std.specs.Prelude.{Option, None, Some}
+use Rattle.std.specs.Prelude.{Option, None, Some, unwrap_or}
 use Rattle.model.specs.Common.{let_some as from_some}
 use Rattle.model.specs.Records as model
 use Rattle.records.specs.Meaning.{type_expr_of, definition_kind_of, definition_link_of, expression_of, origin_of, info_of, names_with_types_of}
 use Rattle.records.specs.declared.TypeExpr.{TypeExpr}
 use Rattle.records.specs.declared.DefinitionKind.{DefinitionKind}
-use Rattle.records.specs.declared.DefinitionLink.{DefinitionLink}
 use Rattle.records.specs.declared.Expression.{Expression}
 use Rattle.records.specs.declared.ExpressionInfo.{ExpressionInfo}
 use Rattle.records.specs.declared.Origin.{Origin}
@@ -21,71 +24,65 @@ use Rattle.resolution.specs.Programs.{Program, done, look, let_some, resolve_ast
 use Rattle.resolution.specs.TypeResolution.{type_expr_type, definition_kind_type, struct_kind_data, function_kind_signature, node_type, context_expected, context_from_origin, signature_param, signature_return_type, let_type, resolve_variable_type, array_repeat_type}
 use Rattle.resolution.specs.Run.{answered, run}
 use Rattle.type_table.specs.Layout.{table_of, type_count}
-use Rattle.type_table.specs.Meaning.{found_type_of, found_array_of}
+use Rattle.type_table.specs.Meaning.{found_array_of}
 use Rattle.type_table.specs.Promises.{Reads}
 use Rattle.type_table.specs.Reads.{array_read, param_read, return_read, navigate_read, element_hint_read}
-use Rattle.type_table.specs.declared.Resolved.{Resolved}
-use Rattle.type_table.specs.declared.FoundType.{FoundType}
-use Rattle.type_table.specs.declared.FoundArray.{FoundArray}
 use Rattle.type_table.proofs.Growth.{grows_refl}
 use Rattle.type_table.proofs.Rows.{length_table}
 use Rattle.resolution.specs.TableOk.{OptionBelow}
 use Rattle.resolution.proofs.SafeReads.{hint_below, array_below, row_below}
-use Rattle.model.proofs.Tests.{eqb_self, eqb_sound}
+use Rattle.model.proofs.Tests.{eqb_self, eqb_sound, some-injective}
 use lib.Dec.{eqb}
 use Rattle.type_resolution.specs.State.{Ready, Runs, typed, linked, ignored}
 use Rattle.type_resolution.specs.Shapes.{struct_named, struct_type, signature_type, declared_type, repeat_in}
-use Rattle.type_resolution.specs.Leaves.{IsKnown, OrError, linked_by, Passed, Returned, NumericOr, StructFields, FunctionParts, HintBelow}
-use Rattle.type_resolution.specs.declared.Linked.{Linked}
-use Rattle.type_resolution.specs.declared.FoundFields.{FoundFields}
-use Rattle.type_resolution.specs.declared.FoundFunction.{FoundFunction}
-use Rattle.type_resolution.proofs.Running.{is_typed, is_refused, is_known, is_absent, not_linked, is_ignored, not_ignored, ends, answers, knows, knows_nothing, then_on, then_stop, some_runs, none_runs, look_runs, same_runs}
+use Rattle.type_resolution.specs.Leaves.{Passed, Returned, NumericOr, StructFields, FunctionParts, HintBelow}
+use Rattle.type_resolution.proofs.Running.{is_ok, is_err, ends, answers, knows, knows_nothing, then_on, then_stop, some_runs, none_runs, look_runs, same_runs}
 use Rattle.type_resolution.proofs.Shaped.{param_reads, return_reads}
 
 -- ------------------------------------------------------------------ the variant that a value has
 
 module _ {file words : List ℕ} {depth : ℕ} {T : List ℕ} {O : List (List ℕ)} {T' : List ℕ} {O' : List (List ℕ)} where
-  pub by_type_expr : (m : ℕ) (the_module : model.Module) (s : ℕ) {x v : TypeExpr} {r : Resolved} → x ≡ v
+  pub by_type_expr : (m : ℕ) (the_module : model.Module) (s : ℕ) {x v : TypeExpr} {r : Result ℕ Refusal} → x ≡ v
       → Runs typed file words (type_expr_type m the_module s (type_expr_of file words v)) depth T O T' O' r
       → Runs typed file words (type_expr_type m the_module s (type_expr_of file words x)) depth T O T' O' r
   by_type_expr m the_module s {r = r} e a = subst⁻¹ (λ y. Runs typed file words (type_expr_type m the_module s (type_expr_of file words y)) depth T O T' O' r) e a
 
-  pub by_kind : (index : model.Index) (m d s : ℕ) {x v : DefinitionKind} {r : Resolved} → x ≡ v
+  pub by_kind : (index : model.Index) (m d s : ℕ) {x v : DefinitionKind} {r : Result ℕ Refusal} → x ≡ v
       → Runs typed file words (definition_kind_type index m d s (definition_kind_of file words v)) depth T O T' O' r
       → Runs typed file words (definition_kind_type index m d s (definition_kind_of file words x)) depth T O T' O' r
   by_kind index m d s {r = r} e a = subst⁻¹ (λ y. Runs typed file words (definition_kind_type index m d s (definition_kind_of file words y)) depth T O T' O' r) e a
 
-  pub by_node : (m : ℕ) (the_module : model.Module) (info : model.ExpressionInfo) (context : Option ℕ) {x v : Expression} {r : Resolved} → x ≡ v
+  pub by_node : (m : ℕ) (the_module : model.Module) (info : model.ExpressionInfo) (context : Option ℕ) {x v : Expression} {r : Result ℕ Refusal} → x ≡ v
       → Runs typed file words (node_type m the_module info context (expression_of file words v)) depth T O T' O' r
       → Runs typed file words (node_type m the_module info context (expression_of file words x)) depth T O T' O' r
   by_node m the_module info context {r = r} e a = subst⁻¹ (λ y. Runs typed file words (node_type m the_module info context (expression_of file words y)) depth T O T' O' r) e a
 
   -- a struct that a lookup's answer leads to
-  pub led_to : (m : ℕ) (found : DefinitionLink) (o : Option ℕ) {r : Resolved} → definition_link_of found ≡ o
+  pub led_to : (m : ℕ) (found : Option DefinitionIndex) (o : Option ℕ) {r : Result ℕ Refusal} → definition_link_of found ≡ o
       → Runs typed file words (struct_named m (definition_link_of found)) depth T O T' O' r → Runs typed file words (struct_named m o) depth T O T' O' r
   led_to m found o {r} e a = subst (λ y. Runs typed file words (struct_named m y) depth T O T' O' r) e a
 
   -- without a context the origin decides
-  pub from_origin : (m : ℕ) (the_module : model.Module) (info : ExpressionInfo) (context : FoundType) (o : Origin) {r : Linked} → context ≡ FoundType.Absent → info.origin ≡ o
+  pub from_origin : (m : ℕ) (the_module : model.Module) (info : ExpressionInfo) (context : Option ℕ) (o : Origin) {r : Result (Option ℕ) Refusal} → context ≡ None → info.origin ≡ o
       → Runs linked file words (context_from_origin m the_module (info_of file words info) (origin_of file o)) depth T O T' O' r
-      → Runs linked file words (context_expected m the_module (info_of file words info) (found_type_of context)) depth T O T' O' r
+      → Runs linked file words (context_expected m the_module (info_of file words info) context) depth T O T' O' r
   unfolding context_expected
   from_origin m the_module info context o {r} absent is a =
-      subst⁻¹ (λ y. Runs linked file words (context_expected m the_module (info_of file words info) (found_type_of y)) depth T O T' O' r) absent
+      subst⁻¹ (λ y. Runs linked file words (context_expected m the_module (info_of file words info) y) depth T O T' O' r) absent
       (subst⁻¹ (λ y. Runs linked file words (context_from_origin m the_module (info_of file words info) (origin_of file y)) depth T O T' O' r) is a)
 
 -- a given context overrides the origin
 pub given_context : {file words : List ℕ} {depth : ℕ} {T : List ℕ} {O : List (List ℕ)} → Ready file words depth T O
-    → (m : ℕ) (the_module : model.Module) (info : model.ExpressionInfo) (context : FoundType) {t : ℕ} → context ≡ FoundType.Found t
-    → Runs linked file words (context_expected m the_module info (found_type_of context)) depth T O T O (Linked.Known t)
+    → (m : ℕ) (the_module : model.Module) (info : model.ExpressionInfo) (context : Option ℕ) {t : ℕ} → context ≡ Some t
+    → Runs linked file words (context_expected m the_module info context) depth T O T O (Ok (Some t))
 unfolding context_expected
 given_context {file} {words} {depth} {T} {O} ok m the_module info context {t} e =
-    subst⁻¹ (λ y. Runs linked file words (context_expected m the_module info (found_type_of y)) depth T O T O (Linked.Known t)) e (knows ok refl)
+    subst⁻¹ (λ y. Runs linked file words (context_expected m the_module info y) depth T O T O (Ok (Some t))) e (knows ok refl)
 
 -- ------------------------------------------------------------------ kinds of definitions
 
-module _ {file words : List ℕ} {depth : ℕ} {T : List ℕ} {O : List (List ℕ)} {T' : List ℕ} {O' : List (List ℕ)} {r : Linked} (m d s : ℕ) where
-  pub struct_fielded : (kind : DefinitionKind) {f : FoundFields} (list : Items) → StructFields kind f → f ≡ FoundFields.Found list
+module _ {file words : List ℕ} {depth : ℕ} {T : List ℕ} {O : List (List ℕ)} {T' : List ℕ} {O' : List (List ℕ)} {r : Result (Option ℕ) Refusal} (m d s : ℕ) where
+  pub struct_fielded : (kind : DefinitionKind) {f : Option Items} (list : Items) → StructFields kind f → f ≡ Some list
       → Runs linked file words (struct_type m d s (names_with_types_of file words list)) depth T O T' O' r
       → Runs linked file words (struct_kind_data m d s (definition_kind_of file words kind)) depth T O T' O' r
   unfolding struct_type struct_kind_data
@@ -99,12 +96,12 @@ module _ {file words : List ℕ} {depth : ℕ} {T : List ℕ} {O : List (List �
   struct_fielded (DefinitionKind.Use home item) list is h a = let same = is.same in let z : ◌≡◌ {A = ℕ} 0 1 = cc in absurd (omega arith)
   struct_fielded DefinitionKind.LoopVariable list is h a = let same = is.same in let z : ◌≡◌ {A = ℕ} 0 1 = cc in absurd (omega arith)
 
-  pub function_parted : (kind : DefinitionKind) {f : FoundFunction} (u : ℕ) (list : Items) → FunctionParts kind f → f ≡ FoundFunction.Found u list
+  pub function_parted : (kind : DefinitionKind) {f : Option (ℕ × Items)} (u : ℕ) (list : Items) → FunctionParts kind f → f ≡ Some (u, list)
       → Runs linked file words (signature_type m d s u (names_with_types_of file words list)) depth T O T' O' r
       → Runs linked file words (function_kind_signature m d s (definition_kind_of file words kind)) depth T O T' O' r
   unfolding signature_type function_kind_signature
   function_parted (DefinitionKind.Function t l) u list is h a =
-      let same = is.same in let z : l ≡ list = cc in let w : t ≡ u = cc in
+      let p = some-injective (sym is.same ∙ h) in let z : l ≡ list = ap (λ p. p.1) p in let w : t ≡ u = ap (λ p. p.0) p in
       subst⁻¹ (λ k. Runs linked file words (function_kind_signature m d s (definition_kind_of file words (DefinitionKind.Function t k))) depth T O T' O' r) z
       (subst⁻¹ (λ k. Runs linked file words (function_kind_signature m d s (definition_kind_of file words (DefinitionKind.Function k list))) depth T O T' O' r) w a)
   function_parted (DefinitionKind.Struct l) u list is h a = let same = is.same in let z : ◌≡◌ {A = ℕ} 0 1 = cc in absurd (omega arith)
@@ -116,8 +113,8 @@ module _ {file words : List ℕ} {depth : ℕ} {T : List ℕ} {O : List (List �
 
 module _ {file words : List ℕ} {depth : ℕ} {T : List ℕ} {O : List (List ℕ)} (ok : Ready file words depth T O) (m d s : ℕ) where
   -- a definition of another kind
-  pub no_struct : (kind : DefinitionKind) {f : FoundFields} → StructFields kind f → f ≡ FoundFields.Absent
-      → Runs linked file words (struct_kind_data m d s (definition_kind_of file words kind)) depth T O T O Linked.Absent
+  pub no_struct : (kind : DefinitionKind) {f : Option Items} → StructFields kind f → f ≡ None
+      → Runs linked file words (struct_kind_data m d s (definition_kind_of file words kind)) depth T O T O (Ok None)
   unfolding struct_kind_data
   no_struct (DefinitionKind.Struct l) is h = let same = is.same in let z : ◌≡◌ {A = ℕ} 0 1 = cc in absurd (omega arith)
   no_struct (DefinitionKind.Function t l) is h = knows_nothing ok
@@ -127,8 +124,8 @@ module _ {file words : List ℕ} {depth : ℕ} {T : List ℕ} {O : List (List �
   no_struct (DefinitionKind.Use home item) is h = knows_nothing ok
   no_struct DefinitionKind.LoopVariable is h = knows_nothing ok
 
-  pub no_function : (kind : DefinitionKind) {f : FoundFunction} → FunctionParts kind f → f ≡ FoundFunction.Absent
-      → Runs linked file words (function_kind_signature m d s (definition_kind_of file words kind)) depth T O T O Linked.Absent
+  pub no_function : (kind : DefinitionKind) {f : Option (ℕ × Items)} → FunctionParts kind f → f ≡ None
+      → Runs linked file words (function_kind_signature m d s (definition_kind_of file words kind)) depth T O T O (Ok None)
   unfolding function_kind_signature
   no_function (DefinitionKind.Struct l) is h = knows_nothing ok
   no_function (DefinitionKind.Function t l) is h = let same = is.same in let z : ◌≡◌ {A = ℕ} 0 1 = cc in absurd (omega arith)
@@ -140,70 +137,54 @@ module _ {file words : List ℕ} {depth : ℕ} {T : List ℕ} {O : List (List �
 
 -- ------------------------------------------------------------------ results that are turned over
 
--- what a read answers, as a link
-linked_is : (o : Option ℕ) (t : Table) → linked (linked_by o) t ≡ answered o t
-unfolding linked
-linked_is None t = refl
-linked_is (Some n) t = refl
-
-read_linked : {file words : List ℕ} {depth : ℕ} {T : List ℕ} {O : List (List ℕ)} → Ready file words depth T O → (read : Table → Option ℕ) {r : Linked} → r ≡ linked_by (read (table_of file T))
-    → Runs linked file words (look (λ table. done (read table))) depth T O T O r
-unfolding run
+read_linked : {file words : List ℕ} {depth : ℕ} {T : List ℕ} {O : List (List ℕ)} → Ready file words depth T O → (read : Table → Option ℕ) {r : Option ℕ}
+    → r ≡ read (table_of file T) → Runs linked file words (look (λ table. done (read table))) depth T O T O (Ok r)
+unfolding run answer_by
 read_linked {file} {T = T} ok read e =
-    record { outcome = ap (λ x. linked x (table_of file T)) e ∙ linked_is (read (table_of file T)) (table_of file T); ready = ok; kept = refl; rest = refl; grows = grows_refl T }
+    record { outcome = ap (λ r. answered r (table_of file T)) e; ready = ok; kept = refl; rest = refl; grows = grows_refl T }
 
-module _ {file words : List ℕ} {depth : ℕ} {T : List ℕ} {O : List (List ℕ)} {T' : List ℕ} {O' : List (List ℕ)} where
-  pub known_runs : {p : Program ℕ} {x : Resolved} {r : Linked} → Runs typed file words p depth T O T' O' x → IsKnown x r
-      → Runs linked file words (p >>= (λ t. done (Some t))) depth T O T' O' r
-  known_runs {x = Resolved.Answered t} a k = then_on a _ (is_typed refl) (ends a.ready (is_known k.same))
-  known_runs {x = Resolved.Refused n} a k = then_stop a _ (is_refused refl) (not_linked k.same)
+module _ {file words : List ℕ} {depth : ℕ} {T : List ℕ} {O : List (List ℕ)} {T' : List ℕ} {O' : List (List ℕ)} {p : Program (Option ℕ)}
+    {x : Result (Option ℕ) Refusal} (a : Runs linked file words p depth T O T' O' x) where
+  pub or_error_runs : (o : Option ℕ) {n : ℕ} → x ≡ Ok o → n ≡ unwrap_or o error → Runs typed file words (p >>= (λ o. let_some o (done error) done)) depth T O T' O' (Ok n)
+  or_error_runs (Some t) is e = then_on a _ (is_ok _ is) (some_runs _ _ _ refl (answers a.ready e))
+  or_error_runs None is e = then_on a _ (is_ok _ is) (none_runs _ _ _ refl (answers a.ready e))
 
-  pub or_error_runs : {p : Program (Option ℕ)} {x : Linked} {r : Resolved} → Runs linked file words p depth T O T' O' x → OrError x r
-      → Runs typed file words (p >>= (λ o. let_some o (done error) done)) depth T O T' O' r
-  or_error_runs {x = Linked.Known t} a k = then_on a _ (is_known refl) (some_runs _ _ _ refl (ends a.ready (is_typed k.same)))
-  or_error_runs {x = Linked.Absent} a k = then_on a _ (is_absent refl) (none_runs _ _ _ refl (ends a.ready (is_typed k.same)))
-  or_error_runs {x = Linked.Refused n} a k = then_stop a _ (not_linked refl) (is_refused k.same)
-
-  pub passed_runs : {p : Program (Option ℕ)} {x r : Linked} {i : ℕ} → Runs linked file words p depth T O T' O' x → Passed T' x i r
-      → Runs linked file words (p >>= (λ signature. signature_param signature i)) depth T O T' O' r
+  pub passed_runs : (o : Option ℕ) {r : Option ℕ} {i : ℕ} → x ≡ Ok o → Passed T' o i r → Runs linked file words (p >>= (λ signature. signature_param signature i)) depth T O T' O' (Ok r)
   unfolding signature_param
-  passed_runs {x = Linked.Known t} {i = i} a k = then_on a _ (is_known refl) (same_runs (param_reads t i) (read_linked a.ready (param_read t i) (k.same file)))
-  passed_runs {x = Linked.Absent} a k = then_on a _ (is_absent refl) (ends a.ready (is_absent (k.same file)))
-  passed_runs {x = Linked.Refused n} a k = then_stop a _ (not_linked refl) (not_linked (k.same file))
+  passed_runs (Some t) {i = i} is k = then_on a _ (is_ok _ is) (same_runs (param_reads t i) (read_linked a.ready (param_read t i) (k.same file)))
+  passed_runs None is k = then_on a _ (is_ok _ is) (ends a.ready (is_ok _ (ap Ok (k.same file))))
 
-  pub returned_runs : {p : Program (Option ℕ)} {x r : Linked} → Runs linked file words p depth T O T' O' x → Returned T' x r
-      → Runs linked file words (p >>= (λ signature. signature_return_type signature)) depth T O T' O' r
+  pub returned_runs : (o : Option ℕ) {r : Option ℕ} → x ≡ Ok o → Returned T' o r → Runs linked file words (p >>= (λ signature. signature_return_type signature)) depth T O T' O' (Ok r)
   unfolding signature_return_type
-  returned_runs {x = Linked.Known t} a k = then_on a _ (is_known refl) (same_runs (return_reads t) (read_linked a.ready (return_read t) (k.same file)))
-  returned_runs {x = Linked.Absent} a k = then_on a _ (is_absent refl) (ends a.ready (is_absent (k.same file)))
-  returned_runs {x = Linked.Refused n} a k = then_stop a _ (not_linked refl) (not_linked (k.same file))
+  returned_runs (Some t) is k = then_on a _ (is_ok _ is) (same_runs (return_reads t) (read_linked a.ready (return_read t) (k.same file)))
+  returned_runs None is k = then_on a _ (is_ok _ is) (ends a.ready (is_ok _ (ap Ok (k.same file))))
 
 -- ------------------------------------------------------------------ reads
 
 module _ {file words : List ℕ} {depth : ℕ} {T : List ℕ} {O : List (List ℕ)} (ok : Ready file words depth T O) where
   numeric_by : (o : Option ℕ) (context : Option ℕ) (n : ℕ) → n ≡ from_some o (numeric_context (table_of file T) context) (λ k. k)
-      → Runs typed file words (let_some o (look (λ table. done (numeric_context table context))) done) depth T O T O (Resolved.Answered n)
+      → Runs typed file words (let_some o (look (λ table. done (numeric_context table context))) done) depth T O T O (Ok n)
   numeric_by None context n e = none_runs None _ _ refl (look_runs _ (answers ok e))
   numeric_by (Some k) context n e = some_runs (Some k) _ _ refl (answers ok e)
 
   -- u32 and felt stay; else the context decides
   pub numeric_runs : {t n : ℕ} {context : Option ℕ} → NumericOr T t context n
-      → Runs typed file words (let_some (numeric (table_of file T) t) (look (λ table. done (numeric_context table context))) done) depth T O T O (Resolved.Answered n)
+      → Runs typed file words (let_some (numeric (table_of file T) t) (look (λ table. done (numeric_context table context))) done) depth T O T O (Ok n)
   numeric_runs {t} {n} {context} is = numeric_by (numeric (table_of file T) t) context n (is.same file)
 
 -- whether a row is an array
-pub is_array : {file T : List ℕ} (t : ℕ) {r : FoundArray} {element size : ℕ} → Reads file T (array_read t) (found_array_of r) → r ≡ FoundArray.Found element size
+pub is_array : {file T : List ℕ} (t : ℕ) {r : Option (ℕ × ℕ)} {element size : ℕ} → Reads file T (array_read t) (found_array_of r) → r ≡ Some (element, size)
     → as_array (data_of (table_of file T) t) ≡ Some (record { element = element; size = size })
 unfolding array_read
 is_array t a e = sym a.same ∙ ap found_array_of e
 
-pub no_array : {file T : List ℕ} (t : ℕ) {r : FoundArray} → Reads file T (array_read t) (found_array_of r) → r ≡ FoundArray.Absent → as_array (data_of (table_of file T) t) ≡ None
+pub no_array : {file T : List ℕ} (t : ℕ) {r : Option (ℕ × ℕ)} → Reads file T (array_read t) (found_array_of r) → r ≡ None → as_array (data_of (table_of file T) t) ≡ None
 unfolding array_read
 no_array t a e = sym a.same ∙ ap found_array_of e
 
 -- ------------------------------------------------------------------ consts and lets
 
-module _ {file words : List ℕ} {depth : ℕ} {T : List ℕ} {O : List (List ℕ)} {T' : List ℕ} {O' : List (List ℕ)} {r : Resolved} where
+module _ {file words : List ℕ} {depth : ℕ} {T : List ℕ} {O : List (List ℕ)} {T' : List ℕ} {O' : List (List ℕ)} {r : Result ℕ Refusal} where
   module _ (m s : ℕ) (t e v : Option ℕ) (path : List ℕ) where
     pub let_whole : v ≡ None → Runs typed file words (resolve_variable_type m s t e) depth T O T' O' r → Runs typed file words (let_type m s t e v path) depth T O T' O' r
     unfolding let_type
@@ -233,15 +214,9 @@ module _ {file words : List ℕ} {depth : ℕ} {T : List ℕ} {O : List (List �
         subst⁻¹ (λ y. Runs typed file words (declared_type m s y e otherwise) depth T O T' O' r) h
         (subst⁻¹ (λ y. Runs typed file words (declared_type m s None y otherwise) depth T O T' O' r) k a)
 
--- an answer that nobody looks at
-pub ignores : {file words : List ℕ} {depth : ℕ} {T : List ℕ} {O : List (List ℕ)} {T' : List ℕ} {O' : List (List ℕ)} {p : Program ℕ} {r : Resolved}
-    → Runs typed file words p depth T O T' O' r → Runs ignored file words (p >>= (λ a. done tt)) depth T O T' O' r
-ignores {r = Resolved.Answered t} a = then_on a _ (is_typed refl) (ends a.ready (is_ignored refl))
-ignores {r = Resolved.Refused n} a = then_stop a _ (is_refused refl) (not_ignored refl)
-
 -- ------------------------------------------------------------------ hints
 
-pub repeated : {file words : List ℕ} {depth : ℕ} {T : List ℕ} {O : List (List ℕ)} {T' : List ℕ} {O' : List (List ℕ)} {r : Resolved} (m : ℕ) (context element : Option ℕ) (size : ℕ) {hint : Option ℕ}
+pub repeated : {file words : List ℕ} {depth : ℕ} {T : List ℕ} {O : List (List ℕ)} {T' : List ℕ} {O' : List (List ℕ)} {r : Result ℕ Refusal} (m : ℕ) (context element : Option ℕ) (size : ℕ) {hint : Option ℕ}
     → Reads file T (element_hint_read context) hint → Runs typed file words (array_repeat_type m hint element size) depth T O T' O' r → Runs typed file words (repeat_in m context element size) depth T O T' O' r
 unfolding repeat_in element_hint_read
 repeated {file} {words} {depth} {T} {O} {T'} {O'} {r} m context element size is a =
@@ -253,18 +228,18 @@ module _ {file words : List ℕ} {depth : ℕ} {T : List ℕ} {O : List (List �
   unfolding element_hint_read
   hinted context hint is = subst⁻¹ (λ h. OptionBelow (table_of file T) h) is.same (hint_below ok.ok context)
 
-  hint_by : (hint : FoundType) → OptionBelow (table_of file T) (found_type_of hint) → HintBelow T hint
-  hint_by FoundType.Absent below = tt
-  hint_by (FoundType.Found t) below = subst (λ n. t < n) (length_table file T) below
+  hint_by : (hint : Option ℕ) → OptionBelow (table_of file T) hint → HintBelow T hint
+  hint_by None below = tt
+  hint_by (Some t) below = subst (λ n. t < n) (length_table file T) below
 
-  pub hint_found : (context : Option ℕ) (hint : FoundType) → Reads file T (element_hint_read context) (found_type_of hint) → HintBelow T hint
-  hint_found context hint is = hint_by hint (hinted context (found_type_of hint) is)
+  pub hint_found : (context : Option ℕ) (hint : Option ℕ) → Reads file T (element_hint_read context) hint → HintBelow T hint
+  hint_found context hint is = hint_by hint (hinted context hint is)
 
   pub element_below : (t : ℕ) {array : Array} → as_array (data_of (table_of file T) t) ≡ Some array → array.element < type_count T
   element_below t {array} e =
       subst (λ n. array.element < n) (length_table file T) (array_below ok.ok (data_of (table_of file T) t) array e (row_below ok.ok t))
 
-pub hint_at : (T : List ℕ) (hint : FoundType) {t : ℕ} → hint ≡ FoundType.Found t → HintBelow T hint → t < type_count T
+pub hint_at : (T : List ℕ) (hint : Option ℕ) {t : ℕ} → hint ≡ Some t → HintBelow T hint → t < type_count T
 hint_at T hint e below = subst (HintBelow T) e below
 
 -- ------------------------------------------------------------------ tests

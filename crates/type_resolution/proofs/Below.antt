@@ -1,4 +1,7 @@
 -- The numbers that are answered are types of the table: what interning asks. Assumes nothing.
+use Rattle.std.specs.Prelude.{Result, Ok, Err}
+use Rattle.refusals.specs.declared.Refusal.{Refusal}
+use Rattle.type_resolution.specs.State.{answer_by}
 use mathlib.Core.Path.{◌≡◌, refl, sym, subst, subst⁻¹, ◌∙◌}
 use Prim.Native.Nat.{ℕ, ◌-◌, ◌<◌}
 use native.Mathlib.Omega.{arith}
@@ -21,10 +24,8 @@ use Rattle.type_table.specs.Promises.{Grows, Interns, ContextsRead, outcome_of}
 use Rattle.type_table.specs.declared.TypeList.{TypeList}
 use Rattle.type_table.proofs.Rows.{length_table}
 use Rattle.type_table.proofs.Laws.{below_members, interned_ok}
-use Rattle.type_table.specs.declared.Resolved.{Resolved}
 use Rattle.type_resolution.specs.State.{Ready, Runs, typed, collected}
-use Rattle.type_resolution.specs.declared.Collected.{Collected}
-use Rattle.type_resolution.proofs.Running.{handler, Gives, is_typed, is_collected, go_on_answered}
+use Rattle.type_resolution.proofs.Running.{handler, Gives, is_ok, go_on_answered}
 
 -- ------------------------------------------------------------------ what is answered
 
@@ -33,7 +34,7 @@ module _ {A R : Type 0} {meaning : R → Table → Outcome A} {file words : List
   -- an answer of a program that stays within the table
   pub answered_good : (Good : Table → A → Type 0) → Safe Good (table_of file T) p → {x : A} → Gives meaning r x → Good (table_of file T') x
   answered_good Good safe {x} is =
-      (subst⁻¹ (OutcomeOk Good (table_of file T)) (sym (is (table_of file T')) ∙ a.outcome)
+      (subst⁻¹ (OutcomeOk Good (table_of file T)) (sym (is.gives (table_of file T')) ∙ a.outcome)
       (run_safe Good (handler file words depth O) (demand_ok (256 - depth) (index_of file words) (open_demands depth O)) safe ok.ok)).2
 
 all_of_table : (file T' l : List ℕ) → AllOfTable (table_of file T') l → AllBelow (type_count T') l
@@ -41,27 +42,27 @@ all_of_table file T' l all = below_members (type_count T') l (λ u named. subst 
 
 module _ {file words : List ℕ} {depth : ℕ} {T : List ℕ} {O : List (List ℕ)} {T' : List ℕ} {O' : List (List ℕ)} (ok : Ready file words depth T O) where
   -- the answer of a type's demand
-  pub type_below : {r : Resolved} {m t s n : ℕ} → Runs typed file words (ask (Demand.type m t s) done) depth T O T' O' r → r ≡ Resolved.Answered n → n < type_count T'
+  pub type_below : {r : Result ℕ Refusal} {m t s n : ℕ} → Runs typed file words (ask (Demand.type m t s) done) depth T O T' O' r → r ≡ Ok n → n < type_count T'
   type_below {m = m} {t} {s} {n} a e =
-      subst (λ k. n < k) (length_table file T') (answered_good ok a Below (safe_asked (Demand.type m t s) tt) (is_typed e))
+      subst (λ k. n < k) (length_table file T') (answered_good ok a Below (safe_asked (Demand.type m t s) tt) (is_ok _ e))
 
   -- the answer of an expression's demand, whose context is a type of the table
-  pub expression_below : {r : Resolved} {m x n : ℕ} {context : Option ℕ} → OptionBelow (table_of file T) context
-      → Runs typed file words (ask (Demand.expression m x context) done) depth T O T' O' r → r ≡ Resolved.Answered n → n < type_count T'
+  pub expression_below : {r : Result ℕ Refusal} {m x n : ℕ} {context : Option ℕ} → OptionBelow (table_of file T) context
+      → Runs typed file words (ask (Demand.expression m x context) done) depth T O T' O' r → r ≡ Ok n → n < type_count T'
   expression_below {m = m} {x} {n} {context} fits a e =
-      subst (λ k. n < k) (length_table file T') (answered_good ok a Below (safe_asked (Demand.expression m x context) fits) (is_typed e))
+      subst (λ k. n < k) (length_table file T') (answered_good ok a Below (safe_asked (Demand.expression m x context) fits) (is_ok _ e))
 
   -- the types of a list
-  pub collected_below : (out : List ℕ) (m s : ℕ) (ts : List ℕ) {r : Collected} {n : ℕ} → Runs (collected out) file words (resolve_all m s ts) depth T O T' O' r → r ≡ Collected.All n
+  pub collected_below : (out : List ℕ) (m s : ℕ) (ts : List ℕ) {r : Result ℕ Refusal} {n : ℕ} → Runs (collected out) file words (resolve_all m s ts) depth T O T' O' r → r ≡ Ok n
       → AllBelow (type_count T') (take n out)
   collected_below out m s ts {n = n} a e =
-      all_of_table file T' (take n out) (answered_good ok a AllOfTable (resolve_all_safe ok.ok m s ts) (is_collected out e))
+      all_of_table file T' (take n out) (answered_good ok a AllOfTable (resolve_all_safe ok.ok m s ts) (is_ok _ e))
 
   -- the types of a tuple's elements, whose contexts are types of the table
-  pub elements_below : (out contexts : List ℕ) (m i : ℕ) (es : List (Option ℕ)) {r : Collected} {n : ℕ} → AllOfTable (table_of file T) contexts
-      → Runs (collected out) file words (infer_elements m contexts i es) depth T O T' O' r → r ≡ Collected.All n → AllBelow (type_count T') (take n out)
+  pub elements_below : (out contexts : List ℕ) (m i : ℕ) (es : List (Option ℕ)) {r : Result ℕ Refusal} {n : ℕ} → AllOfTable (table_of file T) contexts
+      → Runs (collected out) file words (infer_elements m contexts i es) depth T O T' O' r → r ≡ Ok n → AllBelow (type_count T') (take n out)
   elements_below out contexts m i es {n = n} fits a e =
-      all_of_table file T' (take n out) (answered_good ok a AllOfTable (infer_elements_safe ok.ok m contexts fits i es) (is_collected out e))
+      all_of_table file T' (take n out) (answered_good ok a AllOfTable (infer_elements_safe ok.ok m contexts fits i es) (is_ok _ e))
 
 -- the contexts that a tuple gives its elements
 pub contexts_good : {file words : List ℕ} {depth : ℕ} {T : List ℕ} {O : List (List ℕ)} → Ready file words depth T O → {context : Option ℕ} {count : ℕ} {list : TypeList}
@@ -77,12 +78,12 @@ later_all_below l g all i lt = let b = all i lt in omega (arith, b, g.types)
 
 -- ------------------------------------------------------------------ interning
 
-same_outcome : (file w : List ℕ) (r : Resolved) → typed r (table_of file w) ≡ outcome_of file r w
-unfolding typed
-same_outcome file w (Resolved.Answered t) = refl
-same_outcome file w (Resolved.Refused n) = refl
+same_outcome : (file w : List ℕ) (r : Result ℕ Refusal) → typed r (table_of file w) ≡ outcome_of file r w
+unfolding answer_by
+same_outcome file w (Ok t) = refl
+same_outcome file w (Err refusal) = refl
 
-pub interns_runs : {file words : List ℕ} {depth : ℕ} {T : List ℕ} {O : List (List ℕ)} {row : TypeData} {T' : List ℕ} {r : Resolved} → Ready file words depth T O → Interns file row T T' r
+pub interns_runs : {file words : List ℕ} {depth : ℕ} {T : List ℕ} {O : List (List ℕ)} {row : TypeData} {T' : List ℕ} {r : Result ℕ Refusal} → Ready file words depth T O → Interns file row T T' r
     → Runs typed file words (enter row done) depth T O T' O r
 unfolding run
 interns_runs {file} {T = T} {row = row} {T' = T'} {r = r} ok i = record {

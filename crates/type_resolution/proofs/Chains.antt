@@ -1,4 +1,6 @@
 -- The definition's programs up to their first demand, where the code reads the records in one go. Assumes nothing.
+use Rattle.std.specs.Prelude.{Result}
+use Rattle.refusals.specs.declared.Refusal.{Refusal}
 use mathlib.Core.Path.{◌≡◌, refl, sym, ap, subst, subst⁻¹, ◌∙◌}
 use Prim.Native.Nat.{ℕ, zero, suc, ◌+◌, ◌≤◌}
 use native.Mathlib.Omega.{arith}
@@ -19,10 +21,7 @@ use Rattle.views.specs.Reads.{ScopedType, Imported, argument_definition, field_t
 use Rattle.type_table.specs.Layout.{table_of, types_of}
 use Rattle.type_table.specs.Promises.{Reads, ContextsRead}
 use Rattle.type_table.specs.Reads.{element_hint_read}
-use Rattle.type_table.specs.Meaning.{found_type_of}
-use Rattle.type_table.specs.declared.FoundType.{FoundType}
 use Rattle.type_table.specs.declared.TypeList.{TypeList}
-use Rattle.type_table.specs.declared.Resolved.{Resolved}
 use Rattle.type_resolution.specs.State.{Runs, typed}
 use Rattle.type_resolution.specs.Shapes.{info_with, literal_in, array_literal_in, empty_array_in, struct_type, signature_type}
 use Rattle.type_resolution.proofs.Running.{look_runs}
@@ -164,10 +163,10 @@ full_array words m info hint first (suc count) le =
     (λ j. let_some (link_by (item_value words (here j))) missing_child
     (λ e. expression_semantic_type m e hint >>= (λ t. all_same_type m t behind >>= (λ same. when same then type_id_new (TypeData.FixedArray t (suc (each_length (λ i. link_by (item_value words i)) (suc first) count j))) else done error))))
 
-module _ {file words : List ℕ} {depth : ℕ} {T : List ℕ} {O : List (List ℕ)} {T' : List ℕ} {O' : List (List ℕ)} {r : Resolved} (m s : ℕ) (expected context : Option ℕ) (hint : FoundType)
-    (is : Reads file T (element_hint_read context) (found_type_of hint)) where
+module _ {file words : List ℕ} {depth : ℕ} {T : List ℕ} {O : List (List ℕ)} {T' : List ℕ} {O' : List (List ℕ)} {r : Result ℕ Refusal} (m s : ℕ) (expected context : Option ℕ) (hint : Option ℕ)
+    (is : Reads file T (element_hint_read context) hint) where
   -- no element
-  pub no_elements : (first count : ℕ) → count ≡ 0 → Runs typed file words (empty_array_in m s expected (found_type_of hint)) depth T O T' O' r
+  pub no_elements : (first count : ℕ) → count ≡ 0 → Runs typed file words (empty_array_in m s expected hint) depth T O T' O' r
       → Runs typed file words (array_literal_in m s expected context (links_at words first count)) depth T O T' O' r
   unfolding array_literal_in empty_array_in array_literal_type element_hint_read links_at each
   no_elements first count e a =
@@ -178,16 +177,16 @@ module _ {file words : List ℕ} {depth : ℕ} {T : List ℕ} {O : List (List �
   pub some_elements : (first count : ℕ) → 1 ≤ count
       → Runs typed file words
       (let_some (link_by (item_value words (first + 0))) missing_child
-      (λ e. expression_semantic_type m e (found_type_of hint) >>= (λ t. all_same_type m t (drop 1 (links_at words first count)) >>= (λ same. when same then type_id_new (TypeData.FixedArray t count) else done error)))) depth T O T' O' r
+      (λ e. expression_semantic_type m e hint >>= (λ t. all_same_type m t (drop 1 (links_at words first count)) >>= (λ same. when same then type_id_new (TypeData.FixedArray t count) else done error)))) depth T O T' O' r
       → Runs typed file words (array_literal_in m s expected context (links_at words first count)) depth T O T' O' r
   unfolding array_literal_in array_literal_type element_hint_read
   some_elements first count le a =
       look_runs _ (subst (λ h. Runs typed file words (array_literal_type m (info_with s expected) h (links_at words first count)) depth T O T' O' r) is.same
-      (subst⁻¹ (λ p. Runs typed file words p depth T O T' O' r) (full_array words m (info_with s expected) (found_type_of hint) first count le) a))
+      (subst⁻¹ (λ p. Runs typed file words p depth T O T' O' r) (full_array words m (info_with s expected) hint first count le) a))
 
 -- ------------------------------------------------------------------ tuples
 
-pub tuple_looked : {file words : List ℕ} {depth : ℕ} {T : List ℕ} {O : List (List ℕ)} {T' : List ℕ} {O' : List (List ℕ)} {r : Resolved} (m : ℕ) (context : Option ℕ) (first count : ℕ) {contexts : TypeList}
+pub tuple_looked : {file words : List ℕ} {depth : ℕ} {T : List ℕ} {O : List (List ℕ)} {T' : List ℕ} {O' : List (List ℕ)} {r : Result ℕ Refusal} (m : ℕ) (context : Option ℕ) (first count : ℕ) {contexts : TypeList}
     (k : List ℕ → Program ℕ) → ContextsRead T context count contexts
     → Runs typed file words (infer_elements m (types_of T contexts) 0 (links_at words first count) >>= k) depth T O T' O' r
     → Runs typed file words (look (λ table. infer_elements m (element_contexts table context (length (links_at words first count))) 0 (links_at words first count) >>= k)) depth T O T' O' r

@@ -1,4 +1,6 @@
 -- A loop over a list: what a program gives is what the program over what is left gives. Assumes nothing.
+use Rattle.std.specs.Prelude.{Result, Ok, Err, IsErr, IsErrAnd}
+use Rattle.refusals.specs.declared.Refusal.{Refusal}
 use mathlib.Core.Path.{◌≡◌, refl, sym, ap, ◌∙◌}
 use mathlib.Core.Bool.{Bool, true, false}
 use Prim.Native.Nat.{ℕ, zero, suc, ◌+◌, ◌-◌, ◌≤◌, ◌<◌, min}
@@ -11,7 +13,6 @@ use lib.ListN.{length, take, drop, set, get_or, length-take, length-drop}
 use lib.Seq.{take-suc-set, ext_get_or, get_or-take, get_or-drop}
 use Rattle.records.specs.Layout.{index_of, each, item_value, link_by, numbers_at, links_at}
 use Rattle.records.specs.Meaning.{expression_link_of}
-use Rattle.records.specs.declared.ExpressionLink.{ExpressionLink}
 use Rattle.records.specs.declared.ExpressionId.{ExpressionId}
 use Rattle.resolution.specs.Types.{Table}
 use Rattle.resolution.specs.Compatible.{are_types_compatible}
@@ -21,14 +22,11 @@ use Rattle.resolution.specs.Run.{Outcome, go_on, run, demand}
 use Rattle.resolution.proofs.RunLaws.{run_bind}
 use Rattle.demands.specs.Meaning.{open_demands}
 use Rattle.type_table.specs.Layout.{table_of, types_of, item_count}
-use Rattle.type_table.specs.declared.Resolved.{Resolved}
 use Rattle.type_table.specs.declared.TypeList.{TypeList}
 use Rattle.type_table.specs.Promises.{Grows}
 use Rattle.type_table.proofs.Growth.{grows_refl, grows_trans}
 use Rattle.type_resolution.specs.State.{Ready, Runs, typed, ignored, collected, compared, Exactly, AtMost}
-use Rattle.type_resolution.specs.declared.Collected.{Collected}
-use Rattle.type_resolution.specs.declared.Compared.{Compared}
-use Rattle.type_resolution.proofs.Running.{handler, Gives, is_typed, is_refused, is_ignored, not_ignored, is_collected, not_collected, is_same, is_different, not_compared, ends, then_stop}
+use Rattle.type_resolution.proofs.Running.{handler, Gives, is_ok, is_err, ends, then_stop, is_handed_on}
 use Rattle.type_resolution.proofs.Shaped.{bind_assoc, bind_done}
 
 -- the program `p`, from where the loop began, gives what `q` gives from here
@@ -60,7 +58,7 @@ module _ {A : Type 0} {file words : List ℕ} {depth : ℕ} where
     same =
         l.same
         ∙ run_bind (handler file words depth O) first f (table_of file T)
-        ∙ ap (λ o. go_on o (λ y. run (handler file words depth O) (f y))) (sym a.outcome ∙ is (table_of file T'))
+        ∙ ap (λ o. go_on o (λ y. run (handler file words depth O) (f y))) (sym a.outcome ∙ is.gives (table_of file T'))
         ∙ ap (λ os. run (demand (256 - depth) (index_of file words) os) (f x) (table_of file T')) (sym a.kept);
     ready = a.ready;
     kept = a.kept ∙ l.kept;
@@ -212,35 +210,35 @@ module _ {file words : List ℕ} {depth : ℕ} {p : Program (List ℕ)} {T₀ : 
       ∙ collecting_step m s (take i out) (item_value words (first + i)) (numbers_left words first count (i + 1))
       ∙ ap (λ k. ask (Demand.type m k s) done >>= (λ n. resolve_all m s (numbers_left words first count (i + 1)) >>= (λ ns. done (take i out ++ (n ∷ ns))))) (sym e))
 
-  module _ {t : ℕ} {T' : List ℕ} {O' : List (List ℕ)} {r : Resolved} (lt : i < count) (e : t ≡ item_value words (first + i)) (a : Runs typed file words (ask (Demand.type m t s) done) depth T O T' O' r) where
-    pub all_more : {x : ℕ} → r ≡ Resolved.Answered x → i < length out
+  module _ {t : ℕ} {T' : List ℕ} {O' : List (List ℕ)} {r : Result ℕ Refusal} (lt : i < count) (e : t ≡ item_value words (first + i)) (a : Runs typed file words (ask (Demand.type m t s) done) depth T O T' O' r) where
+    pub all_more : {x : ℕ} → r ≡ Ok x → i < length out
         → Leads file words depth p T₀ O₀ (collecting m s (take (i + 1) (set out i x)) (numbers_left words first count (i + 1))) T' O'
     all_more {x} h room =
-        leads_as (leads_on _ (all_next t lt e) a (is_typed h)) _
+        leads_as (leads_on _ (all_next t lt e) a (is_ok _ h)) _
         (λ j. resolve_all m s (numbers_left words first count (i + 1)) >>= (λ ns. done (sym (collected_more out i x room ns) j)))
 
-    pub all_stops : {n : ℕ} (out' : List ℕ) → r ≡ Resolved.Refused n → Runs (collected out') file words p depth T₀ O₀ T' O' (Collected.Refused n)
-    all_stops out' h = leads_runs (all_next t lt e) (then_stop a _ (is_refused h) (not_collected out' refl))
+    pub all_stops : {refusal : Refusal} (out' : List ℕ) → r ≡ Err refusal → {u : Result ℕ Refusal} → IsErr u × IsErrAnd u (λ e. e ≡ refusal) → Runs (collected out') file words p depth T₀ O₀ T' O' u
+    all_stops out' h k = leads_runs (all_next t lt e) (then_stop a _ (is_err _ h) (is_handed_on _ _ k))
 
-  pub all_ends : i ≤ count → count ≤ i → Runs (collected out) file words p depth T₀ O₀ T O (Collected.All count)
+  pub all_ends : i ≤ count → count ≤ i → Runs (collected out) file words p depth T₀ O₀ T O (Ok count)
   all_ends le ge =
       let here : i ≡ count = omega arith in
       leads_runs
       (leads_as l (done (take count out))
       (ap (collecting m s (take i out)) (numbers_over words first count i ge) ∙ collecting_end m s (take i out) ∙ ap (λ k. done (take k out)) here))
-      (ends l.ready (is_collected out refl))
+      (ends l.ready (is_ok _ refl))
 
 -- each element of a tuple
 module _ {file words : List ℕ} {depth : ℕ} {p : Program (List ℕ)} {T₀ : List ℕ} {O₀ : List (List ℕ)} {T : List ℕ} {O : List (List ℕ)} (m : ℕ) (contexts : List ℕ) (first count i n : ℕ) (out : List ℕ)
     (l : Leads file words depth p T₀ O₀ (gathering m contexts i (take n out) (links_left words first count i)) T O) where
-  pub elements_skip : (link : ExpressionLink) → i < count → expression_link_of link ≡ link_by (item_value words (first + i)) → link ≡ ExpressionLink.Absent
+  pub elements_skip : (link : Option ExpressionId) → i < count → expression_link_of link ≡ link_by (item_value words (first + i)) → link ≡ None
       → Leads file words depth p T₀ O₀ (gathering m contexts (i + 1) (take n out) (links_left words first count (i + 1))) T O
   elements_skip link lt e h =
       leads_as l _
       (ap (gathering m contexts i (take n out)) (links_step words first count i lt ∙ ap (λ o. o ∷ links_left words first count (i + 1)) (sym e ∙ ap expression_link_of h))
       ∙ gathering_skip m contexts i (take n out) (links_left words first count (i + 1)))
 
-  elements_next : (link : ExpressionLink) {x : ExpressionId} (context : Option ℕ) → i < count → expression_link_of link ≡ link_by (item_value words (first + i)) → link ≡ ExpressionLink.To x
+  elements_next : (link : Option ExpressionId) {x : ExpressionId} (context : Option ℕ) → i < count → expression_link_of link ≡ link_by (item_value words (first + i)) → link ≡ Some x
       → context ≡ slice_get contexts i
       → Leads file words depth p T₀ O₀ (ask (Demand.expression m x.0 context) done >>= (λ t. infer_elements m contexts (i + 1) (links_left words first count (i + 1)) >>= (λ ns. done (take n out ++ (t ∷ ns))))) T O
   elements_next link {x} context lt e h same =
@@ -249,22 +247,22 @@ module _ {file words : List ℕ} {depth : ℕ} {p : Program (List ℕ)} {T₀ : 
       ∙ gathering_step m contexts i (take n out) x.0 (links_left words first count (i + 1))
       ∙ ap (λ o. ask (Demand.expression m x.0 o) done >>= (λ t. infer_elements m contexts (i + 1) (links_left words first count (i + 1)) >>= (λ ns. done (take n out ++ (t ∷ ns))))) (sym same))
 
-  module _ (link : ExpressionLink) {x : ExpressionId} {context : Option ℕ} {T' : List ℕ} {O' : List (List ℕ)} {r : Resolved} (lt : i < count)
-      (e : expression_link_of link ≡ link_by (item_value words (first + i))) (h : link ≡ ExpressionLink.To x) (same : context ≡ slice_get contexts i)
+  module _ (link : Option ExpressionId) {x : ExpressionId} {context : Option ℕ} {T' : List ℕ} {O' : List (List ℕ)} {r : Result ℕ Refusal} (lt : i < count)
+      (e : expression_link_of link ≡ link_by (item_value words (first + i))) (h : link ≡ Some x) (same : context ≡ slice_get contexts i)
       (a : Runs typed file words (ask (Demand.expression m x.0 context) done) depth T O T' O' r) where
-    pub elements_more : {t : ℕ} → r ≡ Resolved.Answered t → n < length out
+    pub elements_more : {t : ℕ} → r ≡ Ok t → n < length out
         → Leads file words depth p T₀ O₀ (gathering m contexts (i + 1) (take (n + 1) (set out n t)) (links_left words first count (i + 1))) T' O'
     elements_more {t} k room =
-        leads_as (leads_on _ (elements_next link context lt e h same) a (is_typed k)) _
+        leads_as (leads_on _ (elements_next link context lt e h same) a (is_ok _ k)) _
         (λ j. infer_elements m contexts (i + 1) (links_left words first count (i + 1)) >>= (λ ns. done (sym (collected_more out n t room ns) j)))
 
-    pub elements_stop : {k : ℕ} (out' : List ℕ) → r ≡ Resolved.Refused k → Runs (collected out') file words p depth T₀ O₀ T' O' (Collected.Refused k)
-    elements_stop out' k = leads_runs (elements_next link context lt e h same) (then_stop a _ (is_refused k) (not_collected out' refl))
+    pub elements_stop : {refusal : Refusal} (out' : List ℕ) → r ≡ Err refusal → {u : Result ℕ Refusal} → IsErr u × IsErrAnd u (λ e. e ≡ refusal) → Runs (collected out') file words p depth T₀ O₀ T' O' u
+    elements_stop out' k on = leads_runs (elements_next link context lt e h same) (then_stop a _ (is_err _ k) (is_handed_on _ _ on))
 
-  pub elements_end : count ≤ i → Runs (collected out) file words p depth T₀ O₀ T O (Collected.All n)
+  pub elements_end : count ≤ i → Runs (collected out) file words p depth T₀ O₀ T O (Ok n)
   elements_end ge =
       leads_runs (leads_as l (done (take n out)) (ap (gathering m contexts i (take n out)) (links_over words first count i ge) ∙ gathering_end m contexts i (take n out)))
-      (ends l.ready (is_collected out refl))
+      (ends l.ready (is_ok _ refl))
 
 -- each argument of a call
 module _ {file words : List ℕ} {depth : ℕ} {p : Program (Unit {0})} {T₀ : List ℕ} {O₀ : List (List ℕ)} {T : List ℕ} {O : List (List ℕ)} (m : ℕ) (params : List ℕ) (first count i : ℕ)
@@ -278,31 +276,31 @@ module _ {file words : List ℕ} {depth : ℕ} {p : Program (Unit {0})} {T₀ : 
       ∙ ap (λ o. infer_only m o (slice_get params i) >>= (λ u. infer_arguments m params (i + 1) (links_left words first count (i + 1)))) (sym e)
       ∙ ap (λ o. infer_only m link o >>= (λ u. infer_arguments m params (i + 1) (links_left words first count (i + 1)))) (sym same))
 
-  module _ (link context : Option ℕ) {T' : List ℕ} {O' : List (List ℕ)} {r : Resolved} (lt : i < count) (e : link ≡ link_by (item_value words (first + i))) (same : context ≡ slice_get params i)
+  module _ (link context : Option ℕ) {T' : List ℕ} {O' : List (List ℕ)} {r : Result (Unit {0}) Refusal} (lt : i < count) (e : link ≡ link_by (item_value words (first + i))) (same : context ≡ slice_get params i)
       (a : Runs ignored file words (infer_only m link context) depth T O T' O' r) where
-    pub arguments_more : {t : ℕ} → r ≡ Resolved.Answered t → Leads file words depth p T₀ O₀ (infer_arguments m params (i + 1) (links_left words first count (i + 1))) T' O'
-    arguments_more h = leads_on _ (arguments_next link context lt e same) a (is_ignored h)
+    pub arguments_more : r ≡ Ok tt → Leads file words depth p T₀ O₀ (infer_arguments m params (i + 1) (links_left words first count (i + 1))) T' O'
+    arguments_more h = leads_on _ (arguments_next link context lt e same) a (is_ok _ h)
 
-    pub arguments_stop : {n : ℕ} → r ≡ Resolved.Refused n → Runs ignored file words p depth T₀ O₀ T' O' (Resolved.Refused n)
-    arguments_stop h = leads_runs (arguments_next link context lt e same) (then_stop a _ (not_ignored h) (not_ignored refl))
+    pub arguments_stop : {refusal : Refusal} → r ≡ Err refusal → {u : Result (Unit {0}) Refusal} → IsErr u × IsErrAnd u (λ e. e ≡ refusal) → Runs ignored file words p depth T₀ O₀ T' O' u
+    arguments_stop h on = leads_runs (arguments_next link context lt e same) (then_stop a _ (is_err _ h) (is_handed_on _ _ on))
 
-  pub arguments_done : (n : ℕ) → count ≤ i → Runs ignored file words p depth T₀ O₀ T O (Resolved.Answered n)
-  arguments_done n ge =
-      leads_runs (leads_as l (done tt) (ap (infer_arguments m params i) (links_over words first count i ge) ∙ arguments_end m params i)) (ends l.ready (is_ignored refl))
+  pub arguments_done : count ≤ i → Runs ignored file words p depth T₀ O₀ T O (Ok tt)
+  arguments_done ge =
+      leads_runs (leads_as l (done tt) (ap (infer_arguments m params i) (links_over words first count i ge) ∙ arguments_end m params i)) (ends l.ready (is_ok _ refl))
 
 -- each element of an array behind the first
 module _ {file words : List ℕ} {depth : ℕ} {p : Program Bool} {T₀ : List ℕ} {O₀ : List (List ℕ)} {T : List ℕ} {O : List (List ℕ)} (m t first count i : ℕ)
     (l : Leads file words depth p T₀ O₀ (all_same_type m t (links_left words first count i)) T O) where
-  pub same_absent : (link : ExpressionLink) → i < count → expression_link_of link ≡ link_by (item_value words (first + i)) → link ≡ ExpressionLink.Absent
-      → Runs compared file words p depth T₀ O₀ T O Compared.Different
+  pub same_absent : (link : Option ExpressionId) → i < count → expression_link_of link ≡ link_by (item_value words (first + i)) → link ≡ None
+      → Runs compared file words p depth T₀ O₀ T O (Ok false)
   same_absent link lt e h =
       leads_runs
       (leads_as l (done false)
       (ap (all_same_type m t) (links_step words first count i lt ∙ ap (λ o. o ∷ links_left words first count (i + 1)) (sym e ∙ ap expression_link_of h))
       ∙ same_missing m t (links_left words first count (i + 1))))
-      (ends l.ready (is_different refl))
+      (ends l.ready (is_ok _ refl))
 
-  same_next : (link : ExpressionLink) (x : ExpressionId) → i < count → expression_link_of link ≡ link_by (item_value words (first + i)) → link ≡ ExpressionLink.To x
+  same_next : (link : Option ExpressionId) (x : ExpressionId) → i < count → expression_link_of link ≡ link_by (item_value words (first + i)) → link ≡ Some x
       → Leads file words depth p T₀ O₀
       (expression_semantic_type m x.0 (Some t) >>= (λ u. look (λ table. when are_types_compatible table u t then all_same_type m t (links_left words first count (i + 1)) else done false))) T O
   same_next link x lt e h =
@@ -310,27 +308,27 @@ module _ {file words : List ℕ} {depth : ℕ} {p : Program Bool} {T₀ : List �
       (ap (all_same_type m t) (links_step words first count i lt ∙ ap (λ o. o ∷ links_left words first count (i + 1)) (sym e ∙ ap expression_link_of h))
       ∙ same_step m t x.0 (links_left words first count (i + 1)))
 
-  module _ (link : ExpressionLink) {x : ExpressionId} {T' : List ℕ} {O' : List (List ℕ)} {r : Resolved} (lt : i < count)
-      (e : expression_link_of link ≡ link_by (item_value words (first + i))) (h : link ≡ ExpressionLink.To x)
+  module _ (link : Option ExpressionId) {x : ExpressionId} {T' : List ℕ} {O' : List (List ℕ)} {r : Result ℕ Refusal} (lt : i < count)
+      (e : expression_link_of link ≡ link_by (item_value words (first + i))) (h : link ≡ Some x)
       (a : Runs typed file words (expression_semantic_type m x.0 (Some t)) depth T O T' O' r) where
-    same_answered : {u : ℕ} (b : Bool) → r ≡ Resolved.Answered u → are_types_compatible (table_of file T') u t ≡ b
+    same_answered : {u : ℕ} (b : Bool) → r ≡ Ok u → are_types_compatible (table_of file T') u t ≡ b
         → Leads file words depth p T₀ O₀ (when b then all_same_type m t (links_left words first count (i + 1)) else done false) T' O'
     same_answered {u} b k fits =
-        leads_as (leads_look _ (leads_on _ (same_next link x lt e h) a (is_typed k))) _ (ap (λ y. when y then all_same_type m t (links_left words first count (i + 1)) else done false) fits)
+        leads_as (leads_look _ (leads_on _ (same_next link x lt e h) a (is_ok _ k))) _ (ap (λ y. when y then all_same_type m t (links_left words first count (i + 1)) else done false) fits)
 
-    pub same_more : {u : ℕ} → r ≡ Resolved.Answered u → are_types_compatible (table_of file T') u t ≡ true → Leads file words depth p T₀ O₀ (all_same_type m t (links_left words first count (i + 1))) T' O'
+    pub same_more : {u : ℕ} → r ≡ Ok u → are_types_compatible (table_of file T') u t ≡ true → Leads file words depth p T₀ O₀ (all_same_type m t (links_left words first count (i + 1))) T' O'
     unfolding when◌then◌else◌
     same_more k fits = same_answered true k fits
 
-    pub same_differs : {u : ℕ} → r ≡ Resolved.Answered u → are_types_compatible (table_of file T') u t ≡ false → Runs compared file words p depth T₀ O₀ T' O' Compared.Different
+    pub same_differs : {u : ℕ} → r ≡ Ok u → are_types_compatible (table_of file T') u t ≡ false → Runs compared file words p depth T₀ O₀ T' O' (Ok false)
     unfolding when◌then◌else◌
-    same_differs k fits = leads_runs (same_answered false k fits) (ends a.ready (is_different refl))
+    same_differs k fits = leads_runs (same_answered false k fits) (ends a.ready (is_ok _ refl))
 
-    pub same_stops : {n : ℕ} → r ≡ Resolved.Refused n → Runs compared file words p depth T₀ O₀ T' O' (Compared.Refused n)
-    same_stops k = leads_runs (same_next link x lt e h) (then_stop a _ (is_refused k) (not_compared refl))
+    pub same_stops : {refusal : Refusal} → r ≡ Err refusal → {u : Result Bool Refusal} → IsErr u × IsErrAnd u (λ e. e ≡ refusal) → Runs compared file words p depth T₀ O₀ T' O' u
+    same_stops k on = leads_runs (same_next link x lt e h) (then_stop a _ (is_err _ k) (is_handed_on _ _ on))
 
-  pub same_all : count ≤ i → Runs compared file words p depth T₀ O₀ T O Compared.Same
-  same_all ge = leads_runs (leads_as l (done true) (ap (all_same_type m t) (links_over words first count i ge) ∙ same_end m t)) (ends l.ready (is_same refl))
+  pub same_all : count ≤ i → Runs compared file words p depth T₀ O₀ T O (Ok true)
+  same_all ge = leads_runs (leads_as l (done true) (ap (all_same_type m t) (links_over words first count i ge) ∙ same_end m t)) (ends l.ready (is_ok _ refl))
 
 -- ------------------------------------------------------------------ a list of the table stays while it grows
 
@@ -355,17 +353,17 @@ types_kept {w} {w'} g list within =
 
 -- ------------------------------------------------------------------ how many were collected
 
-pub exactly_all : (n : ℕ) → Exactly n (Collected.All n)
+pub exactly_all : (n : ℕ) → Exactly n (Ok n)
 exactly_all n = record { number = λ k e. cc }
 
-pub exactly_none : (count n : ℕ) → Exactly count (Collected.Refused n)
-exactly_none count n = record { number = λ k e. let z : ◌≡◌ {A = ℕ} 0 1 = cc in absurd (omega arith) }
+pub exactly_none : (count : ℕ) {r : Result ℕ Refusal} {refusal : Refusal} → r ≡ Err refusal → Exactly count r
+exactly_none count h = record { number = λ k e. let z : ◌≡◌ {A = ℕ} 0 1 = cc in absurd (omega arith) }
 
-pub at_most_all : (count n : ℕ) → n ≤ count → AtMost count (Collected.All n)
+pub at_most_all : (count n : ℕ) → n ≤ count → AtMost count (Ok n)
 at_most_all count n le = record { number = λ k e. let same : n ≡ k = cc in omega (arith, le, same) }
 
-pub at_most_none : (count n : ℕ) → AtMost count (Collected.Refused n)
-at_most_none count n = record { number = λ k e. let z : ◌≡◌ {A = ℕ} 0 1 = cc in absurd (omega arith) }
+pub at_most_none : (count : ℕ) {r : Result ℕ Refusal} {refusal : Refusal} → r ≡ Err refusal → AtMost count r
+at_most_none count h = record { number = λ k e. let z : ◌≡◌ {A = ℕ} 0 1 = cc in absurd (omega arith) }
 
 pub taken_length : (n : ℕ) (l : List ℕ) → n ≤ length l → n ≡ length (take n l)
 taken_length n l le = let e = length-take n l in omega (arith, e, le)

@@ -1,9 +1,9 @@
 -- How a program runs over the lent words, one step at a time: what each function of the cycle cites at its calls and returns. Assumes nothing.
 use mathlib.Core.Path.{◌≡◌, refl, sym, ap, subst, subst⁻¹, ◌∙◌}
-use mathlib.Core.Bool.{Bool, true, false}
+use mathlib.Core.Bool.{Bool, true, false, false≢true}
 use Prim.Native.Nat.{ℕ, ◌+◌, ◌*◌, ◌-◌, ◌<◌}
 use native.Mathlib.Omega.{arith}
-use Rattle.std.specs.Prelude.{Option, None, Some}
+use Rattle.std.specs.Prelude.{Option, None, Some, Result, Ok, Err, IsErr, IsErrAnd}
 use mathlib.Core.List.{List}
 use lib.ListN.{take}
 use Rattle.records.specs.Layout.{index_of}
@@ -16,15 +16,12 @@ use Rattle.resolution.proofs.RunLaws.{run_bind}
 use Rattle.type_table.specs.Layout.{table_of}
 use Rattle.type_table.specs.Promises.{Reads}
 use Rattle.type_table.proofs.Growth.{grows_refl, grows_trans}
-use Rattle.type_table.specs.declared.Resolved.{Resolved}
 use Rattle.demands.specs.Meaning.{open_demands}
 use Rattle.demands.specs.Promises.{Opens}
 use Rattle.demands.proofs.Laws.{still_long, refused_demand, opened_demand, next_below, kept_through}
-use Rattle.demands.specs.declared.Entered.{Entered}
-use Rattle.type_resolution.specs.State.{Ready, Runs, typed, linked, ignored, collected, compared}
-use Rattle.type_resolution.specs.declared.Linked.{Linked}
-use Rattle.type_resolution.specs.declared.Collected.{Collected}
-use Rattle.type_resolution.specs.declared.Compared.{Compared}
+use Rattle.refusals.specs.Numbers.{refusal_number}
+use Rattle.refusals.specs.declared.Refusal.{Refusal}
+use Rattle.type_resolution.specs.State.{Ready, Runs, answer_by, typed, linked}
 
 -- how the demands of a program are answered
 abbrev pub handler : List ℕ → List ℕ → ℕ → List (List ℕ) → (d : Demand) → Table → Outcome (Answer d)
@@ -33,88 +30,62 @@ handler file words depth demands = demand (256 - depth) (index_of file words) (o
 -- ------------------------------------------------------------------ what a result means
 
 -- a result stands for an answer, or for a refusal, whatever the table
-abbrev pub Gives : {A R : Type 0} → (R → Table → Outcome A) → R → A → Type 0
-Gives meaning r a = (t : Table) → meaning r t ≡ answered a t
+pub record Gives {A R : Type 0} (meaning : R → Table → Outcome A) (r : R) (a : A) : Type 0 where
+  pub gives : (t : Table) → meaning r t ≡ answered a t
 
-abbrev pub Stops : {A R : Type 0} → (R → Table → Outcome A) → R → ℕ → Type 0
-Stops meaning r n = (t : Table) → meaning r t ≡ refused n
+pub record Stops {A R : Type 0} (meaning : R → Table → Outcome A) (r : R) (n : ℕ) : Type 0 where
+  pub stops : (t : Table) → meaning r t ≡ refused n
 
-pub is_typed : {r : Resolved} {n : ℕ} → r ≡ Resolved.Answered n → Gives typed r n
-unfolding typed
-is_typed e t = ap (λ r. typed r t) e
+ok_gives : {A B : Type 0} (f : A → B) (x : A) (t : Table) → answer_by f (Ok x) t ≡ answered (f x) t
+unfolding answer_by
+ok_gives f x t = refl
 
-pub is_refused : {r : Resolved} {n : ℕ} → r ≡ Resolved.Refused n → Stops typed r n
-unfolding typed
-is_refused e t = ap (λ r. typed r t) e
+err_stops : {A B : Type 0} (f : A → B) (refusal : Refusal) (t : Table) → answer_by f (Err refusal) t ≡ refused (refusal_number refusal)
+unfolding answer_by
+err_stops f refusal t = refl
 
-pub is_known : {r : Linked} {n : ℕ} → r ≡ Linked.Known n → Gives linked r (Some n)
-unfolding linked
-is_known e t = ap (λ r. linked r t) e
+pub is_ok : {A B : Type 0} (f : A → B) {r : Result A Refusal} {x : A} → r ≡ Ok x → Gives (answer_by f) r (f x)
+is_ok f {x = x} e = record { gives = λ t. ap (λ r. answer_by f r t) e ∙ ok_gives f x t }
 
-pub is_absent : {r : Linked} → r ≡ Linked.Absent → Gives linked r None
-unfolding linked
-is_absent e t = ap (λ r. linked r t) e
+pub is_err : {A B : Type 0} (f : A → B) {r : Result A Refusal} {refusal : Refusal} → r ≡ Err refusal → Stops (answer_by f) r (refusal_number refusal)
+is_err f {refusal = refusal} e = record { stops = λ t. ap (λ r. answer_by f r t) e ∙ err_stops f refusal t }
 
-pub not_linked : {r : Linked} {n : ℕ} → r ≡ Linked.Refused n → Stops linked r n
-unfolding linked
-not_linked e t = ap (λ r. linked r t) e
+-- a refusal that `?` handed on
+pub handed_on : {A : Type 0} {r : Result A Refusal} {refusal : Refusal} → IsErr r × IsErrAnd r (λ e. e ≡ refusal) → r ≡ Err refusal
+handed_on {r = Ok x} h = absurd (false≢true h.0)
+handed_on {r = Err e} h = ap Err h.1
 
-pub is_ignored : {r : Resolved} {n : ℕ} → r ≡ Resolved.Answered n → Gives ignored r tt
-unfolding ignored
-is_ignored e t = ap (λ r. ignored r t) e
-
-pub not_ignored : {r : Resolved} {n : ℕ} → r ≡ Resolved.Refused n → Stops ignored r n
-unfolding ignored
-not_ignored e t = ap (λ r. ignored r t) e
-
-pub is_collected : (out : List ℕ) {r : Collected} {n : ℕ} → r ≡ Collected.All n → Gives (collected out) r (take n out)
-unfolding collected
-is_collected out e t = ap (λ r. collected out r t) e
-
-pub not_collected : (out : List ℕ) {r : Collected} {n : ℕ} → r ≡ Collected.Refused n → Stops (collected out) r n
-unfolding collected
-not_collected out e t = ap (λ r. collected out r t) e
-
-pub is_same : {r : Compared} → r ≡ Compared.Same → Gives compared r true
-unfolding compared
-is_same e t = ap (λ r. compared r t) e
-
-pub is_different : {r : Compared} → r ≡ Compared.Different → Gives compared r false
-unfolding compared
-is_different e t = ap (λ r. compared r t) e
-
-pub not_compared : {r : Compared} {n : ℕ} → r ≡ Compared.Refused n → Stops compared r n
-unfolding compared
-not_compared e t = ap (λ r. compared r t) e
+pub is_handed_on : {A B : Type 0} (f : A → B) (refusal : Refusal) {r : Result A Refusal} → IsErr r × IsErrAnd r (λ e. e ≡ refusal) → Stops (answer_by f) r (refusal_number refusal)
+is_handed_on f refusal h = is_err f (handed_on h)
 
 -- ------------------------------------------------------------------ ends
 
 module _ {A R : Type 0} {meaning : R → Table → Outcome A} {file words : List ℕ} {depth : ℕ} {T : List ℕ} {O : List (List ℕ)} (ok : Ready file words depth T O) where
   pub ends : {a : A} {r : R} → Gives meaning r a → Runs meaning file words (done a) depth T O T O r
   unfolding run
-  ends is = record { outcome = is (table_of file T); ready = ok; kept = refl; rest = refl; grows = grows_refl T }
+  ends is = record { outcome = is.gives (table_of file T); ready = ok; kept = refl; rest = refl; grows = grows_refl T }
 
   pub stops : {n : ℕ} {r : R} → Stops meaning r n → Runs meaning file words (refuse n) depth T O T O r
   unfolding run
-  stops is = record { outcome = is (table_of file T); ready = ok; kept = refl; rest = refl; grows = grows_refl T }
+  stops is = record { outcome = is.stops (table_of file T); ready = ok; kept = refl; rest = refl; grows = grows_refl T }
 
 module _ {file words : List ℕ} {depth : ℕ} {T : List ℕ} {O : List (List ℕ)} (ok : Ready file words depth T O) where
   -- a known type
-  pub answers : {n m : ℕ} → n ≡ m → Runs typed file words (done m) depth T O T O (Resolved.Answered n)
-  answers e = ends ok (is_typed (ap Resolved.Answered e))
+  pub answers : {n m : ℕ} → n ≡ m → Runs typed file words (done m) depth T O T O (Ok n)
+  answers e = ends ok (is_ok _ (ap Ok e))
 
-  pub refuses : (n : ℕ) → Runs typed file words (refuse n) depth T O T O (Resolved.Refused n)
-  refuses n = stops ok (is_refused refl)
+  pub refuses : (refusal : Refusal) → Runs typed file words (refuse (refusal_number refusal)) depth T O T O (Err refusal)
+  refuses refusal = stops ok (is_err _ refl)
 
-  pub knows : {n m : ℕ} → n ≡ m → Runs linked file words (done (Some m)) depth T O T O (Linked.Known n)
-  knows e = ends ok (is_known (ap Linked.Known e))
+  pub knows : {n m : ℕ} → n ≡ m → Runs linked file words (done (Some m)) depth T O T O (Ok (Some n))
+  knows e = ends ok (is_ok _ (ap (λ n. Ok (Some n)) e))
 
-  pub knows_nothing : Runs linked file words (done None) depth T O T O Linked.Absent
-  knows_nothing = ends ok (is_absent refl)
+  pub knows_nothing : Runs linked file words (done None) depth T O T O (Ok None)
+  knows_nothing = ends ok (is_ok _ refl)
 
   -- what is read of the table
-  pub reads : {read : Table → ℕ} {n : ℕ} → Reads file T read n → Runs typed file words (look (λ table. done (read table))) depth T O T O (Resolved.Answered n)
-  unfolding run typed
+  pub reads : {read : Table → ℕ} {n : ℕ} → Reads file T read n → Runs typed file words (look (λ table. done (read table))) depth T O T O (Ok n)
+  unfolding run answer_by
   reads is = record { outcome = ap (λ n. answered n (table_of file T)) is.same; ready = ok; kept = refl; rest = refl; grows = grows_refl T }
 
 -- ------------------------------------------------------------------ one program, then another
@@ -129,7 +100,7 @@ module _ {A B R S : Type 0} {means : R → Table → Outcome A} {meaning : S →
         b.outcome
         ∙ ap (λ os. run (demand (256 - depth) (index_of file words) os) (f x) (table_of file T')) a.kept
         ∙ sym (run_bind (handler file words depth O) p f (table_of file T)
-        ∙ ap (λ o. go_on o (λ y. run (handler file words depth O) (f y))) (sym a.outcome ∙ is (table_of file T')));
+        ∙ ap (λ o. go_on o (λ y. run (handler file words depth O) (f y))) (sym a.outcome ∙ is.gives (table_of file T')));
     ready = b.ready;
     kept = b.kept ∙ a.kept;
     rest = b.rest ∙ a.rest;
@@ -140,9 +111,9 @@ module _ {A B R S : Type 0} {means : R → Table → Outcome A} {meaning : S →
   unfolding go_on
   then_stop f {n} is so = record {
     outcome =
-        so (table_of file T')
+        so.stops (table_of file T')
         ∙ sym (run_bind (handler file words depth O) p f (table_of file T)
-        ∙ ap (λ o. go_on o (λ y. run (handler file words depth O) (f y))) (sym a.outcome ∙ is (table_of file T')));
+        ∙ ap (λ o. go_on o (λ y. run (handler file words depth O) (f y))) (sym a.outcome ∙ is.stops (table_of file T')));
     ready = a.ready;
     kept = a.kept;
     rest = a.rest;
@@ -190,8 +161,8 @@ pub run_ask_done : (h : (d : Demand) → Table → Outcome (Answer d)) (d : Dema
 unfolding run
 run_ask_done h d t = go_on_answered (h d t)
 
-module _ {file words : List ℕ} {depth : ℕ} {T : List ℕ} {O O₁ : List (List ℕ)} {d : Demand} {e : Entered} (ok : Ready file words depth T O) (o : Opens d depth O O₁ e) where
-  pub entered_ready : {next : ℕ} → e ≡ Entered.At next → Ready file words next T O₁
+module _ {file words : List ℕ} {depth : ℕ} {T : List ℕ} {O O₁ : List (List ℕ)} {d : Demand} {e : Result ℕ Refusal} (ok : Ready file words depth T O) (o : Opens d depth O O₁ e) where
+  pub entered_ready : {next : ℕ} → e ≡ Ok next → Ready file words next T O₁
   entered_ready h = record {
     few = ok.few;
     sound = ok.sound;
@@ -202,10 +173,10 @@ module _ {file words : List ℕ} {depth : ℕ} {T : List ℕ} {O O₁ : List (Li
 
   module _ {R : Type 0} {meaning : R → Table → Outcome (Answer d)} where
     -- 7 or 8
-    pub entered_stops : {n : ℕ} {r : R} → e ≡ Entered.Refused n → Stops meaning r n → Runs meaning file words (ask d done) depth T O T O₁ r
-    entered_stops {n} h is = record {
+    pub entered_stops : {refusal : Refusal} {r : R} → e ≡ Err refusal → Stops meaning r (refusal_number refusal) → Runs meaning file words (ask d done) depth T O T O₁ r
+    entered_stops h is = record {
       outcome =
-          is (table_of file T)
+          is.stops (table_of file T)
           ∙ sym (run_ask_done (handler file words depth O) d (table_of file T) ∙ refused_demand o h ok.below (index_of file words) (table_of file T));
       ready = record { few = ok.few; sound = ok.sound; ok = ok.ok; places = still_long o ok.places; below = ok.below };
       kept = o.kept;
@@ -214,7 +185,7 @@ module _ {file words : List ℕ} {depth : ℕ} {T : List ℕ} {O O₁ : List (Li
     }
 
     -- the demand's program, with one place fewer
-    pub entered_runs : {next : ℕ} {T' : List ℕ} {O' : List (List ℕ)} {r : R} → e ≡ Entered.At next
+    pub entered_runs : {next : ℕ} {T' : List ℕ} {O' : List (List ℕ)} {r : R} → e ≡ Ok next
         → Runs meaning file words (program (index_of file words) d) next T O₁ T' O' r → Runs meaning file words (ask d done) depth T O T' O' r
     entered_runs {next} {T'} {O'} h b = record {
       outcome =
@@ -237,6 +208,6 @@ module _ {A R : Type 0} {meaning : R → Table → Outcome A} {file words : List
 -- ------------------------------------------------------------------ free places
 
 -- a function that opened its demand has fewer places free, whatever its callee's rank
-pub enter_falls : (rank : ℕ) → rank < 8 → {d : Demand} {depth : ℕ} {places places₁ : List (List ℕ)} {e : Entered} {next t : ℕ} → Opens d depth places places₁ e → e ≡ Entered.At next
+pub enter_falls : (rank : ℕ) → rank < 8 → {d : Demand} {depth : ℕ} {places places₁ : List (List ℕ)} {e : Result ℕ Refusal} {next t : ℕ} → Opens d depth places places₁ e → e ≡ Ok next
     → t ≡ 8 * (256 - depth) → 8 * (256 - next) + rank < t
 enter_falls rank small {next = next} o h is = let at = o.next next h in omega (arith, small, at.0, at.1, is)

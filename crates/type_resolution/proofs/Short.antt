@@ -1,4 +1,6 @@
 -- A list of a record is no longer than the limit of items over the whole file. Assumes nothing.
+use Rattle.model.proofs.Tests.{some-injective}
+use Rattle.std.specs.Prelude.{Option}
 use mathlib.Core.Path.{◌≡◌, sym, ap, subst, ◌∙◌}
 use mathlib.Core.Bool.{Bool, true, false}
 use Prim.Native.Nat.{ℕ, zero, suc, ◌≤◌}
@@ -16,9 +18,6 @@ use Rattle.model.proofs.Tests.{some-injective}
 use Rattle.records.specs.Layout.{index_of, module_row, item_value, link_by, numbers_at, links_at, names_with_types_at, name_with_type_row}
 use Rattle.records.specs.Meaning.{type_expr_of, found_type_expr_of, definition_kind_of, found_definition_of, expression_of, info_of, found_expression_of}
 use Rattle.records.proofs.Lists.{each_length}
-use Rattle.records.specs.declared.FoundTypeExpr.{FoundTypeExpr}
-use Rattle.records.specs.declared.FoundDefinition.{FoundDefinition}
-use Rattle.records.specs.declared.FoundExpression.{FoundExpression}
 use Rattle.records.specs.declared.TypeExpr.{TypeExpr}
 use Rattle.records.specs.declared.Definition.{Definition}
 use Rattle.records.specs.declared.DefinitionKind.{DefinitionKind}
@@ -28,8 +27,6 @@ use Rattle.records.specs.declared.Items.{Items}
 use Rattle.type_resolution.specs.State.{Ready}
 use Rattle.type_resolution.specs.Shapes.{ShortType, ShortNode}
 use Rattle.type_resolution.specs.Leaves.{TypeIn, DefinitionIn, ExpressionIn, StructFields, FunctionParts}
-use Rattle.type_resolution.specs.declared.FoundFields.{FoundFields}
-use Rattle.type_resolution.specs.declared.FoundFunction.{FoundFunction}
 
 -- ------------------------------------------------------------------ one of many
 
@@ -97,7 +94,7 @@ node_short file words (Expression.Cast t) le = tt
 node_short file words (Expression.New t count) le = tt
 node_short file words (Expression.Parenthesized inner) le = tt
 
-struct_short : (file words : List ℕ) (kind : DefinitionKind) (f : FoundFields) (list : Items) → StructFields kind f → f ≡ FoundFields.Found list
+struct_short : (file words : List ℕ) (kind : DefinitionKind) (f : Option Items) (list : Items) → StructFields kind f → f ≡ Some list
     → kind_items (definition_kind_of file words kind) ≤ 2048 → list.count ≤ 2048
 unfolding kind_items
 struct_short file words (DefinitionKind.Function t l) f list is h le = let same = is.same in let z : ◌≡◌ {A = ℕ} 0 1 = cc in absurd (omega arith)
@@ -109,11 +106,11 @@ struct_short file words (DefinitionKind.Parameter t) f list is h le = let same =
 struct_short file words (DefinitionKind.Use home item) f list is h le = let same = is.same in let z : ◌≡◌ {A = ℕ} 0 1 = cc in absurd (omega arith)
 struct_short file words DefinitionKind.LoopVariable f list is h le = let same = is.same in let z : ◌≡◌ {A = ℕ} 0 1 = cc in absurd (omega arith)
 
-function_short : (file words : List ℕ) (kind : DefinitionKind) (f : FoundFunction) (u : ℕ) (list : Items) → FunctionParts kind f → f ≡ FoundFunction.Found u list
+function_short : (file words : List ℕ) (kind : DefinitionKind) (f : Option (ℕ × Items)) (u : ℕ) (list : Items) → FunctionParts kind f → f ≡ Some (u, list)
     → kind_items (definition_kind_of file words kind) ≤ 2048 → list.count ≤ 2048
 unfolding kind_items
 function_short file words (DefinitionKind.Function t l) f u list is h le =
-    let same = is.same in let z : l ≡ list = cc in subst (λ k. k.count ≤ 2048) z (subst (λ n. n ≤ 2048) (names_length file words l.first l.count) le)
+    let p = some-injective (sym is.same ∙ h) in let z : l ≡ list = ap (λ p. p.1) p in subst (λ k. k.count ≤ 2048) z (subst (λ n. n ≤ 2048) (names_length file words l.first l.count) le)
 function_short file words (DefinitionKind.Struct l) f u list is h le = let same = is.same in let z : ◌≡◌ {A = ℕ} 0 1 = cc in absurd (omega arith)
 function_short file words (DefinitionKind.Const t e) f u list is h le = let same = is.same in let z : ◌≡◌ {A = ℕ} 0 1 = cc in absurd (omega arith)
 function_short file words (DefinitionKind.Let t e v path) f u list is h le = let same = is.same in let z : ◌≡◌ {A = ℕ} 0 1 = cc in absurd (omega arith)
@@ -124,27 +121,27 @@ function_short file words DefinitionKind.LoopVariable f u list is h le = let sam
 -- ------------------------------------------------------------------ for callers
 
 module _ {file words : List ℕ} {depth : ℕ} {T : List ℕ} {O : List (List ℕ)} (ok : Ready file words depth T O) where
-  pub short_type : {m t : ℕ} {r : FoundTypeExpr} {x : TypeExpr} → TypeIn words m t r → r ≡ FoundTypeExpr.Found x → ShortType x
+  pub short_type : {m t : ℕ} {r : Option TypeExpr} {x : TypeExpr} → TypeIn words m t r → r ≡ Some x → ShortType x
   short_type {m} {t} {x = x} i h =
       type_short file words x
       (short_by file words ok.few m (λ home. home.types) type_expr_items (λ home. omega arith) i.there t (type_expr_of file words x)
       (i.module_is file) (sym (ap (found_type_expr_of file words) h) ∙ i.same file))
 
-  pub short_node : {m e : ℕ} {r : FoundExpression} {x : ExpressionInfo} → ExpressionIn words m e r → r ≡ FoundExpression.Found x → ShortNode x.node
+  pub short_node : {m e : ℕ} {r : Option ExpressionInfo} {x : ExpressionInfo} → ExpressionIn words m e r → r ≡ Some x → ShortNode x.node
   short_node {m} {e} {x = x} i h =
       node_short file words x.node
       (short_by file words ok.few m (λ home. home.expressions) expression_items (λ home. omega arith) i.there e (info_of file words x)
       (i.module_is file) (sym (ap (found_expression_of file words) h) ∙ i.same file))
 
-  kind_short : {m d : ℕ} {r : FoundDefinition} {x : Definition} → DefinitionIn words m d r → r ≡ FoundDefinition.Found x → kind_items (definition_kind_of file words x.kind) ≤ 2048
+  kind_short : {m d : ℕ} {r : Option Definition} {x : Definition} → DefinitionIn words m d r → r ≡ Some x → kind_items (definition_kind_of file words x.kind) ≤ 2048
   kind_short {m} {d} {x = x} i h =
       short_by file words ok.few m (λ home. home.definitions) definition_items (λ home. omega arith) i.there d _
       (i.module_is file) (sym (ap (found_definition_of file words) h) ∙ i.same file)
 
-  pub short_fields : {m d : ℕ} {r : FoundDefinition} {x : Definition} {f : FoundFields} {list : Items} → DefinitionIn words m d r → r ≡ FoundDefinition.Found x
-      → StructFields x.kind f → f ≡ FoundFields.Found list → list.count ≤ 2048
+  pub short_fields : {m d : ℕ} {r : Option Definition} {x : Definition} {f : Option Items} {list : Items} → DefinitionIn words m d r → r ≡ Some x
+      → StructFields x.kind f → f ≡ Some list → list.count ≤ 2048
   short_fields {x = x} {f} {list} i h s e = struct_short file words x.kind f list s e (kind_short i h)
 
-  pub short_params : {m d : ℕ} {r : FoundDefinition} {x : Definition} {f : FoundFunction} {u : ℕ} {list : Items} → DefinitionIn words m d r → r ≡ FoundDefinition.Found x
-      → FunctionParts x.kind f → f ≡ FoundFunction.Found u list → list.count ≤ 2048
+  pub short_params : {m d : ℕ} {r : Option Definition} {x : Definition} {f : Option (ℕ × Items)} {u : ℕ} {list : Items} → DefinitionIn words m d r → r ≡ Some x
+      → FunctionParts x.kind f → f ≡ Some (u, list) → list.count ≤ 2048
   short_params {x = x} {f} {u} {list} i h s e = function_short file words x.kind f u list s e (kind_short i h)

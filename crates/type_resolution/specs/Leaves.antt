@@ -7,94 +7,69 @@ use Rattle.model.specs.Common.{let_some}
 use Rattle.model.specs.Lookups.{module_at, type_expr_at, definition_at, expression_at}
 use Rattle.records.specs.Layout.{index_of, module_row}
 use Rattle.records.specs.Meaning.{found_type_expr_of, found_definition_of, found_expression_of}
-use Rattle.records.specs.declared.FoundTypeExpr.{FoundTypeExpr}
-use Rattle.records.specs.declared.FoundDefinition.{FoundDefinition}
-use Rattle.records.specs.declared.FoundExpression.{FoundExpression}
+use Rattle.records.specs.declared.TypeExpr.{TypeExpr}
+use Rattle.records.specs.declared.Definition.{Definition}
+use Rattle.records.specs.declared.ExpressionInfo.{ExpressionInfo}
+use Rattle.records.specs.declared.Items.{Items}
 use Rattle.records.specs.declared.DefinitionKind.{DefinitionKind}
 use Rattle.resolution.specs.Types.{Table, error}
 use Rattle.resolution.specs.Views.{numeric, numeric_context}
 use Rattle.type_table.specs.Layout.{table_of, type_count}
 use Rattle.type_table.specs.Reads.{param_read, return_read}
-use Rattle.type_table.specs.declared.Resolved.{Resolved}
-use Rattle.type_table.specs.declared.FoundType.{FoundType}
-use Rattle.type_resolution.specs.declared.Linked.{Linked}
-use Rattle.type_resolution.specs.declared.FoundFields.{FoundFields}
-use Rattle.type_resolution.specs.declared.FoundFunction.{FoundFunction}
 
 -- ------------------------------------------------------------------ a record of a module, none where there is no such module
 
-pub record TypeIn (words : List ℕ) (m t : ℕ) (r : FoundTypeExpr) : Type 0 where
+pub record TypeIn (words : List ℕ) (m t : ℕ) (r : Option TypeExpr) : Type 0 where
   pub there : Bool
   pub module_is : (file : List ℕ) → module_at (index_of file words) m ≡ (if there then Some (module_row file words m) else None)
   pub same : (file : List ℕ) → found_type_expr_of file words r ≡ (if there then type_expr_at (module_row file words m) t else None)
 
-pub record DefinitionIn (words : List ℕ) (m d : ℕ) (r : FoundDefinition) : Type 0 where
+pub record DefinitionIn (words : List ℕ) (m d : ℕ) (r : Option Definition) : Type 0 where
   pub there : Bool
   pub module_is : (file : List ℕ) → module_at (index_of file words) m ≡ (if there then Some (module_row file words m) else None)
   pub same : (file : List ℕ) → found_definition_of file words r ≡ (if there then definition_at (module_row file words m) d else None)
 
-pub record ExpressionIn (words : List ℕ) (m e : ℕ) (r : FoundExpression) : Type 0 where
+pub record ExpressionIn (words : List ℕ) (m e : ℕ) (r : Option ExpressionInfo) : Type 0 where
   pub there : Bool
   pub module_is : (file : List ℕ) → module_at (index_of file words) m ≡ (if there then Some (module_row file words m) else None)
   pub same : (file : List ℕ) → found_expression_of file words r ≡ (if there then expression_at (module_row file words m) e else None)
 
 -- ------------------------------------------------------------------ kinds of definitions
 
-abbrev pub fields_of : DefinitionKind → FoundFields
-fields_of (DefinitionKind.Function t list) = FoundFields.Absent
-fields_of (DefinitionKind.Struct list) = FoundFields.Found list
-fields_of (DefinitionKind.Const t e) = FoundFields.Absent
-fields_of (DefinitionKind.Let t e v path) = FoundFields.Absent
-fields_of (DefinitionKind.Parameter t) = FoundFields.Absent
-fields_of (DefinitionKind.Use home item) = FoundFields.Absent
-fields_of DefinitionKind.LoopVariable = FoundFields.Absent
+abbrev pub fields_of : DefinitionKind → Option Items
+fields_of (DefinitionKind.Function t list) = None
+fields_of (DefinitionKind.Struct list) = Some list
+fields_of (DefinitionKind.Const t e) = None
+fields_of (DefinitionKind.Let t e v path) = None
+fields_of (DefinitionKind.Parameter t) = None
+fields_of (DefinitionKind.Use home item) = None
+fields_of DefinitionKind.LoopVariable = None
 
-abbrev pub function_of : DefinitionKind → FoundFunction
-function_of (DefinitionKind.Function t list) = FoundFunction.Found t list
-function_of (DefinitionKind.Struct list) = FoundFunction.Absent
-function_of (DefinitionKind.Const t e) = FoundFunction.Absent
-function_of (DefinitionKind.Let t e v path) = FoundFunction.Absent
-function_of (DefinitionKind.Parameter t) = FoundFunction.Absent
-function_of (DefinitionKind.Use home item) = FoundFunction.Absent
-function_of DefinitionKind.LoopVariable = FoundFunction.Absent
+abbrev pub function_of : DefinitionKind → Option (ℕ × Items)
+function_of (DefinitionKind.Function t list) = Some (t, list)
+function_of (DefinitionKind.Struct list) = None
+function_of (DefinitionKind.Const t e) = None
+function_of (DefinitionKind.Let t e v path) = None
+function_of (DefinitionKind.Parameter t) = None
+function_of (DefinitionKind.Use home item) = None
+function_of DefinitionKind.LoopVariable = None
 
-pub record StructFields (kind : DefinitionKind) (r : FoundFields) : Type 0 where
+pub record StructFields (kind : DefinitionKind) (r : Option Items) : Type 0 where
   pub same : r ≡ fields_of kind
 
-pub record FunctionParts (kind : DefinitionKind) (r : FoundFunction) : Type 0 where
+pub record FunctionParts (kind : DefinitionKind) (r : Option (ℕ × Items)) : Type 0 where
   pub same : r ≡ function_of kind
 
 -- ------------------------------------------------------------------ results
 
-abbrev pub known_of : Resolved → Linked
-known_of (Resolved.Answered t) = Linked.Known t
-known_of (Resolved.Refused n) = Linked.Refused n
+-- what is read of a signature, where there is one
+abbrev pub read_of : (ℕ → Table → Option ℕ) → Option ℕ → Table → Option ℕ
+read_of read signature table = let_some signature None (λ t. read t table)
 
-abbrev pub or_error_of : Linked → Resolved
-or_error_of (Linked.Known t) = Resolved.Answered t
-or_error_of Linked.Absent = Resolved.Answered error
-or_error_of (Linked.Refused n) = Resolved.Refused n
-
-pub record IsKnown (x : Resolved) (r : Linked) : Type 0 where
-  pub same : r ≡ known_of x
-
-pub record OrError (x : Linked) (r : Resolved) : Type 0 where
-  pub same : r ≡ or_error_of x
-
--- what a read answers
-abbrev pub linked_by : Option ℕ → Linked
-linked_by None = Linked.Absent
-linked_by (Some t) = Linked.Known t
-
-abbrev pub read_of : (ℕ → Table → Option ℕ) → Linked → Table → Linked
-read_of read (Linked.Known t) table = linked_by (read t table)
-read_of read Linked.Absent table = Linked.Absent
-read_of read (Linked.Refused n) table = Linked.Refused n
-
-pub record Passed (types : List ℕ) (signature : Linked) (i : ℕ) (r : Linked) : Type 0 where
+pub record Passed (types : List ℕ) (signature : Option ℕ) (i : ℕ) (r : Option ℕ) : Type 0 where
   pub same : (file : List ℕ) → r ≡ read_of (λ t. param_read t i) signature (table_of file types)
 
-pub record Returned (types : List ℕ) (signature : Linked) (r : Linked) : Type 0 where
+pub record Returned (types : List ℕ) (signature : Option ℕ) (r : Option ℕ) : Type 0 where
   pub same : (file : List ℕ) → r ≡ read_of return_read signature (table_of file types)
 
 pub record NumericOr (types : List ℕ) (t : ℕ) (context : Option ℕ) (r : ℕ) : Type 0 where
@@ -104,6 +79,6 @@ pub record NumericOr (types : List ℕ) (t : ℕ) (context : Option ℕ) (r : �
 -- ------------------------------------------------------------------ a hint
 
 -- the element type that a context gave is a type of the table
-abbrev pub HintBelow : List ℕ → FoundType → Type 0
-HintBelow types FoundType.Absent = Unit {0}
-HintBelow types (FoundType.Found t) = t < type_count types
+abbrev pub HintBelow : List ℕ → Option ℕ → Type 0
+HintBelow types None = Unit {0}
+HintBelow types (Some t) = t < type_count types

@@ -1,7 +1,6 @@
 -- What every function of the cycle asks, and the one form of promise that each has: its result with the words at exit is what its program
 -- gives at the words at entry. Assumes nothing: these are definitions.
-use Rattle.std.specs.Prelude.{◌≡◌, ℕ, ◌-◌, ◌≤◌, Bool, true, false, List, length, take, drop}
-use Rattle.std.specs.Prelude.{Option, None, Some}
+use Rattle.std.specs.Prelude.{◌≡◌, ℕ, ◌-◌, ◌≤◌, Bool, List, length, take, drop, Option, Result, Ok, Err}
 use Rattle.model.specs.Limits.{item_count, max_items}
 use Rattle.records.specs.Layout.{index_of}
 use Rattle.resolution.specs.Types.{Table}
@@ -11,10 +10,9 @@ use Rattle.resolution.specs.TableOk.{TableOk}
 use Rattle.type_table.specs.Layout.{table_of, Sound}
 use Rattle.type_table.specs.Promises.{Grows}
 use Rattle.demands.specs.Meaning.{open_demands}
-use Rattle.type_table.specs.declared.Resolved.{Resolved}
-use Rattle.type_resolution.specs.declared.Linked.{Linked}
-use Rattle.type_resolution.specs.declared.Collected.{Collected}
-use Rattle.type_resolution.specs.declared.Compared.{Compared}
+use Rattle.refusals.specs.Numbers.{refusal_number}
+use Rattle.refusals.specs.declared.Refusal.{Refusal}
+use Rattle.records.specs.declared.Index.{Index}
 
 -- the records are within their limit of items, the words of the types hold a table as interning leaves it, and there are 256 places for open
 -- demands, of which `depth` are taken
@@ -27,39 +25,37 @@ pub record Ready (file words : List ℕ) (depth : ℕ) (types : List ℕ) (deman
 
 -- ------------------------------------------------------------------ what a result means, with the table behind it
 
+-- an answer, as f takes it, or the number of a refusal
+unfoldable pub answer_by : {A B : Type 0} → (A → B) → Result A Refusal → Table → Outcome B
+answer_by f (Ok x) table = answered (f x) table
+answer_by f (Err refusal) table = refused (refusal_number refusal)
+
 -- the number of a type
-unfoldable pub typed : Resolved → Table → Outcome ℕ
-typed (Resolved.Answered t) table = answered t table
-typed (Resolved.Refused n) table = refused n
+abbrev pub typed : Result ℕ Refusal → Table → Outcome ℕ
+typed = answer_by (λ t. t)
 
 -- the number of a type, or none
-unfoldable pub linked : Linked → Table → Outcome (Option ℕ)
-linked (Linked.Known t) table = answered (Some t) table
-linked Linked.Absent table = answered None table
-linked (Linked.Refused n) table = refused n
+abbrev pub linked : Result (Option ℕ) Refusal → Table → Outcome (Option ℕ)
+linked = answer_by (λ t. t)
 
 -- an answer that nobody looks at
-unfoldable pub ignored : Resolved → Table → Outcome (Unit {0})
-ignored (Resolved.Answered t) table = answered tt table
-ignored (Resolved.Refused n) table = refused n
+abbrev pub ignored : Result (Unit {0}) Refusal → Table → Outcome (Unit {0})
+ignored = answer_by (λ x. x)
 
 -- the types at the start of the buffer that was lent for them
-unfoldable pub collected : List ℕ → Collected → Table → Outcome (List ℕ)
-collected out (Collected.All n) table = answered (take n out) table
-collected out (Collected.Refused n) table = refused n
+abbrev pub collected : List ℕ → Result ℕ Refusal → Table → Outcome (List ℕ)
+collected out = answer_by (λ n. take n out)
 
 -- how many were collected: one for each of a list, or at most so many
-pub record Exactly (count : ℕ) (r : Collected) : Type 0 where
-  pub number : (n : ℕ) → r ≡ Collected.All n → n ≡ count
+pub record Exactly (count : ℕ) (r : Result ℕ Refusal) : Type 0 where
+  pub number : (n : ℕ) → r ≡ Ok n → n ≡ count
 
-pub record AtMost (count : ℕ) (r : Collected) : Type 0 where
-  pub number : (n : ℕ) → r ≡ Collected.All n → n ≤ count
+pub record AtMost (count : ℕ) (r : Result ℕ Refusal) : Type 0 where
+  pub number : (n : ℕ) → r ≡ Ok n → n ≤ count
 
 -- whether all elements fit
-unfoldable pub compared : Compared → Table → Outcome Bool
-compared Compared.Same table = answered true table
-compared Compared.Different table = answered false table
-compared (Compared.Refused n) table = refused n
+abbrev pub compared : Result Bool Refusal → Table → Outcome Bool
+compared = answer_by (λ b. b)
 
 -- ------------------------------------------------------------------ the promise
 
@@ -73,3 +69,11 @@ pub record Runs {A R : Type 0} (meaning : R → Table → Outcome A) (file words
   pub kept : open_demands depth demands' ≡ open_demands depth demands
   pub rest : drop 256 demands' ≡ drop 256 demands
   pub grows : Grows types types'
+
+-- ------------------------------------------------------------------ the same of an index
+
+abbrev pub ReadyIn : Index → ℕ → List ℕ → List (List ℕ) → Type 0
+ReadyIn index = Ready index.file.now index.words.now
+
+abbrev pub RunsIn : {A R : Type 0} → (R → Table → Outcome A) → Index → Program A → ℕ → List ℕ → List (List ℕ) → List ℕ → List (List ℕ) → R → Type 0
+RunsIn meaning index = Runs meaning index.file.now index.words.now

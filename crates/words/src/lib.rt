@@ -34,12 +34,6 @@ pub fn field_end(file: &[u8], from: usize) -> usize
     from.max(file.len())
 }
 
-fn wide(b: u8) -> usize
-    ensures { (result ≡ b) × (result < 256) }
-{
-    b as usize
-}
-
 // A number below 32 from the field's first byte, last byte and length. The factors are such that no two words of a table have the same one:
 // else no map would be right for that table.
 fn hash(field: &[u8]) -> usize
@@ -49,8 +43,8 @@ fn hash(field: &[u8]) -> usize
     if n < 1 {
         return 0;
     }
-    let first = wide(field[0]);
-    let last = wide(field[n - 1]);
+    let first = field[0] as usize;
+    let last = field[n - 1] as usize;
     (23 * first + 23 * last + 57 * (n % 4)) / 8 % 32
 }
 
@@ -59,12 +53,12 @@ pub fn find_word(field: &[u8], table: &[u8], map: &[u8; 32]) -> Option<usize>
     ensures { result ≡ candidate_place table.now map.now field.now }
 {
     let h = hash(field);
-    let k = wide(map[h]);
+    let k = map[h] as usize;
     let at = k * 9;
     if table.len() <= at {
         return None;
     }
-    let n = wide(table[at]);
+    let n = table[at] as usize;
     let from = at + 1;
     if table.len() - from < n {
         return None;

@@ -1,12 +1,9 @@
 -- `check_index::row_total` meets its contract: what is left to add. Assumes nothing.
-use Prim.Native.Nat.{◌+◌, ◌-◌, ◌*◌, ◌≤◌}
+use Prim.Native.Nat.{◌+◌, ◌*◌, ◌≤◌}
 use mathlib.Core.Path.{◌≡◌}
 use Rattle.check_index.specs.Line.{row_total}
 use Rattle.check_index.proofs.Totals.{left}
 use Rattle.check_index.proofs.row_total.Given as goal
 
 abbrev pub invariant-loop-m : goal.invariant-loop-m
-invariant-loop-m l = (l.m ≤ l.count) × (l.sum ≤ l.m * 4294967295) × (row_total l.words l.kind ≡ l.sum + left l.words l.kind l.m)
-
-abbrev pub decreases-loop-m : goal.decreases-loop-m
-decreases-loop-m l = l.count - l.m
+invariant-loop-m l = (l.sum ≤ l.m * 4294967295) × (row_total l.words l.kind ≡ l.sum + left l.words l.kind l.m)

@@ -1,8 +1,7 @@
 -- The proof of the cycle of calls. Assumes nothing.
 use Rattle.type_resolution.proofs.Leading.{Leads, numbers_left, collecting, links_left, gathering}
-use mathlib.Core.Path.{◌≡◌}
 use Prim.Native.Nat.{◌≤◌, ◌-◌, ◌*◌, ◌+◌}
-use lib.ListN.{length, take, drop}
+use lib.ListN.{take, drop}
 use Rattle.resolution.specs.TypeResolution.{resolve_all, infer_arguments, infer_elements, all_same_type}
 use Rattle.records.specs.Layout.{numbers_at, links_at}
 use Rattle.type_table.specs.Layout.{types_of}
@@ -12,27 +11,17 @@ abbrev pub decreases-all : goal.decreases-all
 decreases-all l = 8 * (256 - l.depth) + 1
 
 abbrev pub invariant-all-loop-i : goal.invariant-all-loop-i
-invariant-all-loop-i l = (l.i ≤ l.count)
-    × ((length l.out ≡ length l.initial.out)
-    × ((length l.types ≡ length l.initial.types)
-    × ((length l.demands ≡ length l.initial.demands)
-    × Leads l.file l.words l.depth (resolve_all l.m l.s.0 (numbers_at l.words l.first l.count)) l.initial.types l.initial.demands (collecting l.m l.s.0 (take l.i l.out) (numbers_left l.words l.first l.count l.i)) l.types l.demands)))
-
-abbrev pub decreases-all-loop-i : goal.decreases-all-loop-i
-decreases-all-loop-i l = l.count - l.i
+invariant-all-loop-i l =
+    Leads l.index.file.now l.index.words.now l.depth (resolve_all l.m l.s.0 (numbers_at l.index.words.now l.first l.count)) l.initial.types l.initial.demands
+    (collecting l.m l.s.0 (take l.i l.out) (numbers_left l.index.words.now l.first l.count l.i)) l.types l.demands
 
 abbrev pub decreases-args : goal.decreases-args
 decreases-args l = 8 * (256 - l.depth) + 2
 
 abbrev pub invariant-args-loop-i : goal.invariant-args-loop-i
-invariant-args-loop-i l = (l.i ≤ l.count)
-    × ((length l.types ≡ length l.initial.types)
-    × ((length l.demands ≡ length l.initial.demands)
-    × Leads l.file l.words l.depth (infer_arguments l.m (types_of l.initial.types l.params) 0 (links_at l.words l.first l.count)) l.initial.types l.initial.demands
-    (infer_arguments l.m (types_of l.initial.types l.params) l.i (links_left l.words l.first l.count l.i)) l.types l.demands))
-
-abbrev pub decreases-args-loop-i : goal.decreases-args-loop-i
-decreases-args-loop-i l = l.count - l.i
+invariant-args-loop-i l =
+    Leads l.index.file.now l.index.words.now l.depth (infer_arguments l.m (types_of l.initial.types l.params) 0 (links_at l.index.words.now l.first l.count)) l.initial.types l.initial.demands
+    (infer_arguments l.m (types_of l.initial.types l.params) l.i (links_left l.index.words.now l.first l.count l.i)) l.types l.demands
 
 abbrev pub decreases-arr : goal.decreases-arr
 decreases-arr l = 8 * (256 - l.depth) + 2
@@ -59,16 +48,10 @@ abbrev pub decreases-elems : goal.decreases-elems
 decreases-elems l = 8 * (256 - l.depth) + 1
 
 abbrev pub invariant-elems-loop-i : goal.invariant-elems-loop-i
-invariant-elems-loop-i l = (l.i ≤ l.count)
-    × ((l.n ≤ l.i)
-    × ((length l.out ≡ length l.initial.out)
-    × ((length l.types ≡ length l.initial.types)
-    × ((length l.demands ≡ length l.initial.demands)
-    × Leads l.file l.words l.depth (infer_elements l.m (types_of l.initial.types l.contexts) 0 (links_at l.words l.first l.count)) l.initial.types l.initial.demands
-    (gathering l.m (types_of l.initial.types l.contexts) l.i (take l.n l.out) (links_left l.words l.first l.count l.i)) l.types l.demands))))
-
-abbrev pub decreases-elems-loop-i : goal.decreases-elems-loop-i
-decreases-elems-loop-i l = l.count - l.i
+invariant-elems-loop-i l =
+    (l.n ≤ l.i)
+    × Leads l.index.file.now l.index.words.now l.depth (infer_elements l.m (types_of l.initial.types l.contexts) 0 (links_at l.index.words.now l.first l.count)) l.initial.types l.initial.demands
+    (gathering l.m (types_of l.initial.types l.contexts) l.i (take l.n l.out) (links_left l.index.words.now l.first l.count l.i)) l.types l.demands
 
 abbrev pub decreases-empty : goal.decreases-empty
 decreases-empty l = 8 * (256 - l.depth) + 1
@@ -113,13 +96,9 @@ abbrev pub decreases-same : goal.decreases-same
 decreases-same l = 8 * (256 - l.depth) + 1
 
 abbrev pub invariant-same-loop-i : goal.invariant-same-loop-i
-invariant-same-loop-i l = (l.i ≤ l.count)
-    × ((length l.types ≡ length l.initial.types)
-    × ((length l.demands ≡ length l.initial.demands)
-    × Leads l.file l.words l.depth (all_same_type l.m l.t (drop 1 (links_at l.words l.first l.count))) l.initial.types l.initial.demands (all_same_type l.m l.t (links_left l.words l.first l.count l.i)) l.types l.demands))
-
-abbrev pub decreases-same-loop-i : goal.decreases-same-loop-i
-decreases-same-loop-i l = l.count - l.i
+invariant-same-loop-i l =
+    Leads l.index.file.now l.index.words.now l.depth (all_same_type l.m l.t (drop 1 (links_at l.index.words.now l.first l.count))) l.initial.types l.initial.demands
+    (all_same_type l.m l.t (links_left l.index.words.now l.first l.count l.i)) l.types l.demands
 
 abbrev pub decreases-sig : goal.decreases-sig
 decreases-sig l = 8 * (256 - l.depth) + 2

@@ -9,6 +9,3 @@ use Rattle.loader.proofs.lines.is_again.Given as goal
 
 abbrev pub invariant-loop-m : goal.invariant-loop-m
 invariant-loop-m l = again l.file l.words l.n ≡ not (is_none (first (λ other. eq_numbers other (name_at l.file l.words l.n)) (each (name_at l.file l.words) (0 + l.m) (l.n - l.m))))
-
-abbrev pub decreases-loop-m : goal.decreases-loop-m
-decreases-loop-m l = l.n - l.m

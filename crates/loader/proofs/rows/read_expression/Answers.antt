@@ -1,44 +1,43 @@
 -- `loader::rows::read_expression` meets its contract. Assumes nothing.
-use mathlib.Core.Path.{refl, sym, ap, subst, ◌∙◌}
+use mathlib.Core.Path.{sym, ap, subst, ◌∙◌}
 use Prim.Native.Nat.{◌+◌, ◌*◌}
-use native.Mathlib.Omega.{arith}
 use lib.ListN.{drop}
 use Rattle.format.specs.declared.Kind.{Kind}
 use Rattle.fields.specs.Held.{word_is}
 use Rattle.loader.specs.Values.{parts}
 use Rattle.loader.specs.Lines.{OriginIs, last_word}
 use Rattle.loader.proofs.Tailing.{three_found, three_lost, tail_of, tail_none, tail_put_as}
-use Rattle.loader.proofs.Leaving.{left_self, behind_left, put_ends, put_only}
+use Rattle.loader.proofs.Leaving.{number_lost, number_kept, line_lost, left_self, behind_left, put_first, put_eleventh}
 use Rattle.loader.proofs.ExpressionLines.{expression_no_first, expression_no_second, expression_no_origin, expression_no_word, expression_no_tail, expression_no_kind, expression_put_as}
 use Rattle.loader.proofs.rows.read_expression.Goals as goal
 
-pub returns-in_default : goal.returns-in_default
-returns-in_default c =
-    record { left = left_self c.args.n _; line = expression_no_first c.args.file.now _ (three_lost c.args.file.now _ Kind.Number Kind.Position Kind.Position c.three_words.result c.three_words.ensures c.in_default.is) }
+pub returns-in_err-scope : goal.returns-in_err-scope
+returns-in_err-scope c =
+    line_lost c.from_residual.ensures (left_self c.args.n _) (expression_no_first c.args.file.now _ (three_lost c.args.file.now _ Kind.Number Kind.Position Kind.Position c.three_words.result c.three_words.ensures c.in_err-scope.was))
 
-pub returns-in_default-three_words : goal.returns-in_default-three_words
-returns-in_default-three_words c =
-    record { left = left_self c.args.n _; line = expression_no_second c.args.file.now _ (parts c.in-Are.scope) (parts c.in-Are.start) (parts c.in-Are.end) c.in-Are.e (three_found c.args.file.now _ Kind.Number Kind.Position Kind.Position c.three_words.result c.three_words.ensures c.in-Are.scope c.in-Are.start c.in-Are.end c.in-Are.e c.in-Are.is) (three_lost c.args.file.now _ Kind.MaybeNumber Kind.MaybeNumber Kind.Nothing c.three_words-2.result c.three_words-2.ensures c.in_default-three_words.is) }
+pub returns-in_err-expected : goal.returns-in_err-expected
+returns-in_err-expected c =
+    line_lost c.from_residual-in_err-expected.ensures (left_self c.args.n _) (expression_no_second c.args.file.now _ (parts c.in_ok-scope.scope) (parts c.in_ok-scope.start) (parts c.in_ok-scope.end) c.in_ok-scope.e (three_found c.args.file.now _ Kind.Number Kind.Position Kind.Position c.three_words.result c.three_words.ensures c.in_ok-scope.scope c.in_ok-scope.start c.in_ok-scope.end c.in_ok-scope.e c.in_ok-scope.was) (three_lost c.args.file.now _ Kind.MaybeNumber Kind.MaybeNumber Kind.Nothing c.three_words-2.result c.three_words-2.ensures c.in_err-expected.was))
 
-pub returns-in_default-read_origin : goal.returns-in_default-read_origin
-returns-in_default-read_origin c =
-    record { left = left_self c.args.n _; line = expression_no_origin c.args.file.now _ (parts c.in-Are.scope) (parts c.in-Are.start) (parts c.in-Are.end) c.in-Are.e (three_found c.args.file.now _ Kind.Number Kind.Position Kind.Position c.three_words.result c.three_words.ensures c.in-Are.scope c.in-Are.start c.in-Are.end c.in-Are.e c.in-Are.is) (parts c.in-Are-three_words.expected) (parts c.in-Are-three_words.definition) (parts c.in-Are-three_words.field-2) c.in-Are-three_words.f (three_found c.args.file.now _ Kind.MaybeNumber Kind.MaybeNumber Kind.Nothing c.three_words-2.result c.three_words-2.ensures c.in-Are-three_words.expected c.in-Are-three_words.definition c.in-Are-three_words.field-2 c.in-Are-three_words.f c.in-Are-three_words.is) (subst (OriginIs c.args.file.now (drop c.in-Are-three_words.f c.args.file.now)) c.in_default-read_origin.is c.read_origin.ensures) }
+pub returns-in_err-origin : goal.returns-in_err-origin
+returns-in_err-origin c =
+    line_lost c.from_residual-in_err-origin.ensures (left_self c.args.n _) (expression_no_origin c.args.file.now _ (parts c.in_ok-scope.scope) (parts c.in_ok-scope.start) (parts c.in_ok-scope.end) c.in_ok-scope.e (three_found c.args.file.now _ Kind.Number Kind.Position Kind.Position c.three_words.result c.three_words.ensures c.in_ok-scope.scope c.in_ok-scope.start c.in_ok-scope.end c.in_ok-scope.e c.in_ok-scope.was) (parts c.in_ok-expected.expected) (parts c.in_ok-expected.definition) (parts c.in_ok-expected.field-0-2) c.in_ok-expected.f (three_found c.args.file.now _ Kind.MaybeNumber Kind.MaybeNumber Kind.Nothing c.three_words-2.result c.three_words-2.ensures c.in_ok-expected.expected c.in_ok-expected.definition c.in_ok-expected.field-0-2 c.in_ok-expected.f c.in_ok-expected.was) (subst (OriginIs c.args.file.now (drop c.in_ok-expected.f c.args.file.now)) c.in_err-origin.was c.read_origin.ensures))
 
-pub returns-in_default-word_here : goal.returns-in_default-word_here
-returns-in_default-word_here c =
-    record { left = left_self c.args.n _; line = expression_no_word c.args.file.now _ (parts c.in-Are.scope) (parts c.in-Are.start) (parts c.in-Are.end) c.in-Are.e (three_found c.args.file.now _ Kind.Number Kind.Position Kind.Position c.three_words.result c.three_words.ensures c.in-Are.scope c.in-Are.start c.in-Are.end c.in-Are.e c.in-Are.is) (parts c.in-Are-three_words.expected) (parts c.in-Are-three_words.definition) (parts c.in-Are-three_words.field-2) c.in-Are-three_words.f (three_found c.args.file.now _ Kind.MaybeNumber Kind.MaybeNumber Kind.Nothing c.three_words-2.result c.three_words-2.ensures c.in-Are-three_words.expected c.in-Are-three_words.definition c.in-Are-three_words.field-2 c.in-Are-three_words.f c.in-Are-three_words.is) c.in-Is.origin c.in-Is.link c.in-Is.value c.in-Is.g (subst (OriginIs c.args.file.now (drop c.in-Are-three_words.f c.args.file.now)) c.in-Is.is c.read_origin.ensures) (sym c.word_here.ensures.is ∙ ap (word_is c.args.file.now) c.in_default-word_here.is) }
+pub returns-in_err-p : goal.returns-in_err-p
+returns-in_err-p c =
+    line_lost c.from_residual-in_err-p.ensures (left_self c.args.n _) (expression_no_word c.args.file.now _ (parts c.in_ok-scope.scope) (parts c.in_ok-scope.start) (parts c.in_ok-scope.end) c.in_ok-scope.e (three_found c.args.file.now _ Kind.Number Kind.Position Kind.Position c.three_words.result c.three_words.ensures c.in_ok-scope.scope c.in_ok-scope.start c.in_ok-scope.end c.in_ok-scope.e c.in_ok-scope.was) (parts c.in_ok-expected.expected) (parts c.in_ok-expected.definition) (parts c.in_ok-expected.field-0-2) c.in_ok-expected.f (three_found c.args.file.now _ Kind.MaybeNumber Kind.MaybeNumber Kind.Nothing c.three_words-2.result c.three_words-2.ensures c.in_ok-expected.expected c.in_ok-expected.definition c.in_ok-expected.field-0-2 c.in_ok-expected.f c.in_ok-expected.was) c.in_ok-origin.origin c.in_ok-origin.link c.in_ok-origin.value c.in_ok-origin.g (subst (OriginIs c.args.file.now (drop c.in_ok-expected.f c.args.file.now)) c.in_ok-origin.was c.read_origin.ensures) (sym c.word_here.ensures.is ∙ ap (word_is c.args.file.now) c.in_err-p.was))
 
-pub returns-in_default-read_tail : goal.returns-in_default-read_tail
-returns-in_default-read_tail c =
+pub returns-in_err-tail : goal.returns-in_err-tail
+returns-in_err-tail c =
     let tp = tail_put_as {words' = c.read_tail.new.words} c.node_shape-shape.ensures c.read_tail.ensures in
-    record { left = behind_left c.args.n c.requires.0 tp.behind; line = expression_no_tail c.args.file.now _ (parts c.in-Are.scope) (parts c.in-Are.start) (parts c.in-Are.end) c.in-Are.e (three_found c.args.file.now _ Kind.Number Kind.Position Kind.Position c.three_words.result c.three_words.ensures c.in-Are.scope c.in-Are.start c.in-Are.end c.in-Are.e c.in-Are.is) (parts c.in-Are-three_words.expected) (parts c.in-Are-three_words.definition) (parts c.in-Are-three_words.field-2) c.in-Are-three_words.f (three_found c.args.file.now _ Kind.MaybeNumber Kind.MaybeNumber Kind.Nothing c.three_words-2.result c.three_words-2.ensures c.in-Are-three_words.expected c.in-Are-three_words.definition c.in-Are-three_words.field-2 c.in-Are-three_words.f c.in-Are-three_words.is) c.in-Is.origin c.in-Is.link c.in-Is.value c.in-Is.g (subst (OriginIs c.args.file.now (drop c.in-Are-three_words.f c.args.file.now)) c.in-Is.is c.read_origin.ensures) _ c.in-Is-word_here.q (sym c.word_here.ensures.is ∙ ap (word_is c.args.file.now) c.in-Is-word_here.is) c.node_word-word.result c.node_word-word.ensures (tail_none c.args.file.now _ _ _ _ tp.tail c.in_default-read_tail.is) }
+    line_lost c.from_residual-in_err-tail.ensures (behind_left c.args.n c.requires.0 tp.behind) (expression_no_tail c.args.file.now _ (parts c.in_ok-scope.scope) (parts c.in_ok-scope.start) (parts c.in_ok-scope.end) c.in_ok-scope.e (three_found c.args.file.now _ Kind.Number Kind.Position Kind.Position c.three_words.result c.three_words.ensures c.in_ok-scope.scope c.in_ok-scope.start c.in_ok-scope.end c.in_ok-scope.e c.in_ok-scope.was) (parts c.in_ok-expected.expected) (parts c.in_ok-expected.definition) (parts c.in_ok-expected.field-0-2) c.in_ok-expected.f (three_found c.args.file.now _ Kind.MaybeNumber Kind.MaybeNumber Kind.Nothing c.three_words-2.result c.three_words-2.ensures c.in_ok-expected.expected c.in_ok-expected.definition c.in_ok-expected.field-0-2 c.in_ok-expected.f c.in_ok-expected.was) c.in_ok-origin.origin c.in_ok-origin.link c.in_ok-origin.value c.in_ok-origin.g (subst (OriginIs c.args.file.now (drop c.in_ok-expected.f c.args.file.now)) c.in_ok-origin.was c.read_origin.ensures) _ c.in_ok-p.q (sym c.word_here.ensures.is ∙ ap (word_is c.args.file.now) c.in_ok-p.was) c.word-word.result c.word-word.ensures (tail_none c.args.file.now _ _ _ _ tp.tail c.in_err-tail.was))
 
-pub returns-then-node-eq16 : goal.returns-then-node-eq16
-returns-then-node-eq16 c =
+pub returns-in_err-node : goal.returns-in_err-node
+returns-in_err-node c =
     let tp = tail_put_as {words' = c.read_tail.new.words} c.node_shape-shape.ensures c.read_tail.ensures in
-    record { left = behind_left c.args.n c.requires.0 tp.behind; line = expression_no_kind c.args.file.now _ (parts c.in-Are.scope) (parts c.in-Are.start) (parts c.in-Are.end) c.in-Are.e (three_found c.args.file.now _ Kind.Number Kind.Position Kind.Position c.three_words.result c.three_words.ensures c.in-Are.scope c.in-Are.start c.in-Are.end c.in-Are.e c.in-Are.is) (parts c.in-Are-three_words.expected) (parts c.in-Are-three_words.definition) (parts c.in-Are-three_words.field-2) c.in-Are-three_words.f (three_found c.args.file.now _ Kind.MaybeNumber Kind.MaybeNumber Kind.Nothing c.three_words-2.result c.three_words-2.ensures c.in-Are-three_words.expected c.in-Are-three_words.definition c.in-Are-three_words.field-2 c.in-Are-three_words.f c.in-Are-three_words.is) c.in-Is.origin c.in-Is.link c.in-Is.value c.in-Is.g (subst (OriginIs c.args.file.now (drop c.in-Are-three_words.f c.args.file.now)) c.in-Is.is c.read_origin.ensures) _ c.in-Is-word_here.q (sym c.word_here.ensures.is ∙ ap (word_is c.args.file.now) c.in-Is-word_here.is) c.node_word-word.result c.node_word-word.ensures c.args.n c.in-Is-read_tail.tail (tail_of c.args.file.now _ _ _ c.args.n.items tp.tail c.in-Is-read_tail.tail c.in-Is-read_tail.is) (sym c.node_number-node.ensures ∙ c.if-node-eq16.true) }
+    line_lost c.from_residual-in_err-node.ensures (behind_left c.args.n c.requires.0 tp.behind) (expression_no_kind c.args.file.now _ (parts c.in_ok-scope.scope) (parts c.in_ok-scope.start) (parts c.in_ok-scope.end) c.in_ok-scope.e (three_found c.args.file.now _ Kind.Number Kind.Position Kind.Position c.three_words.result c.three_words.ensures c.in_ok-scope.scope c.in_ok-scope.start c.in_ok-scope.end c.in_ok-scope.e c.in_ok-scope.was) (parts c.in_ok-expected.expected) (parts c.in_ok-expected.definition) (parts c.in_ok-expected.field-0-2) c.in_ok-expected.f (three_found c.args.file.now _ Kind.MaybeNumber Kind.MaybeNumber Kind.Nothing c.three_words-2.result c.three_words-2.ensures c.in_ok-expected.expected c.in_ok-expected.definition c.in_ok-expected.field-0-2 c.in_ok-expected.f c.in_ok-expected.was) c.in_ok-origin.origin c.in_ok-origin.link c.in_ok-origin.value c.in_ok-origin.g (subst (OriginIs c.args.file.now (drop c.in_ok-expected.f c.args.file.now)) c.in_ok-origin.was c.read_origin.ensures) _ c.in_ok-p.q (sym c.word_here.ensures.is ∙ ap (word_is c.args.file.now) c.in_ok-p.was) c.word-word.result c.word-word.ensures c.args.n c.in_ok-tail.tail (tail_of c.args.file.now _ _ _ c.args.n.items tp.tail c.in_ok-tail.tail c.in_ok-tail.was) (number_lost 16 _ _ c.node_number.ensures c.in_err-node.was))
 
 pub returns : goal.returns
 returns c =
     let tp = tail_put_as {words' = c.read_tail.new.words} c.node_shape-shape.ensures c.read_tail.ensures in
-    expression_put_as c.args.file.now _ (parts c.in-Are.scope) (parts c.in-Are.start) (parts c.in-Are.end) c.in-Are.e (three_found c.args.file.now _ Kind.Number Kind.Position Kind.Position c.three_words.result c.three_words.ensures c.in-Are.scope c.in-Are.start c.in-Are.end c.in-Are.e c.in-Are.is) (parts c.in-Are-three_words.expected) (parts c.in-Are-three_words.definition) (parts c.in-Are-three_words.field-2) c.in-Are-three_words.f (three_found c.args.file.now _ Kind.MaybeNumber Kind.MaybeNumber Kind.Nothing c.three_words-2.result c.three_words-2.ensures c.in-Are-three_words.expected c.in-Are-three_words.definition c.in-Are-three_words.field-2 c.in-Are-three_words.f c.in-Are-three_words.is) c.in-Is.origin c.in-Is.link c.in-Is.value c.in-Is.g (subst (OriginIs c.args.file.now (drop c.in-Are-three_words.f c.args.file.now)) c.in-Is.is c.read_origin.ensures) _ c.in-Is-word_here.q (sym c.word_here.ensures.is ∙ ap (word_is c.args.file.now) c.in-Is-word_here.is) c.node_word-word.result c.node_word-word.ensures c.args.n c.in-Is-read_tail.tail (tail_of c.args.file.now _ _ _ c.args.n.items tp.tail c.in-Is-read_tail.tail c.in-Is-read_tail.is) c.requires.0 c.requires.1 (λ e. c.if-node-eq16.false (c.node_number-node.ensures ∙ e)) tp.behind (put_ends (ap (λ k. k + 256 * c.in-Is.origin) c.node_number-node.ensures) refl c.put_four.ensures) c.put_four-2.ensures c.put_two.ensures (put_only (c.last_word.ensures ∙ ap (λ k. last_word k c.in-Is-read_tail.tail) c.node_shape-shape.ensures) (omega (arith, c.requires.0.room, c.requires.1, c.read_tail.ensures.behind.long, c.put_four.ensures.long, c.put_four-2.ensures.long, c.put_two.ensures.long)))
+    expression_put_as c.args.file.now _ (parts c.in_ok-scope.scope) (parts c.in_ok-scope.start) (parts c.in_ok-scope.end) c.in_ok-scope.e (three_found c.args.file.now _ Kind.Number Kind.Position Kind.Position c.three_words.result c.three_words.ensures c.in_ok-scope.scope c.in_ok-scope.start c.in_ok-scope.end c.in_ok-scope.e c.in_ok-scope.was) (parts c.in_ok-expected.expected) (parts c.in_ok-expected.definition) (parts c.in_ok-expected.field-0-2) c.in_ok-expected.f (three_found c.args.file.now _ Kind.MaybeNumber Kind.MaybeNumber Kind.Nothing c.three_words-2.result c.three_words-2.ensures c.in_ok-expected.expected c.in_ok-expected.definition c.in_ok-expected.field-0-2 c.in_ok-expected.f c.in_ok-expected.was) c.in_ok-origin.origin c.in_ok-origin.link c.in_ok-origin.value c.in_ok-origin.g (subst (OriginIs c.args.file.now (drop c.in_ok-expected.f c.args.file.now)) c.in_ok-origin.was c.read_origin.ensures) _ c.in_ok-p.q (sym c.word_here.ensures.is ∙ ap (word_is c.args.file.now) c.in_ok-p.was) c.word-word.result c.word-word.ensures c.args.n c.in_ok-tail.tail (tail_of c.args.file.now _ _ _ c.args.n.items tp.tail c.in_ok-tail.tail c.in_ok-tail.was) c.requires.0 c.requires.1 (number_kept 16 _ _ c.node_number.ensures c.in_ok-node.node c.in_ok-node.was).1 tp.behind (put_first (ap (λ k. k + 256 * c.in_ok-origin.origin) (number_kept 16 _ _ c.node_number.ensures c.in_ok-node.node c.in_ok-node.was).0) (put_eleventh (c.last_word.ensures ∙ ap (λ k. last_word k c.in_ok-tail.tail) c.node_shape-shape.ensures) c.put.ensures))

@@ -1,24 +1,26 @@
 -- `loader::values::three_words` meets its contract. Assumes nothing.
+use mathlib.Core.Path.{ap, ◌∙◌}
 use Rattle.format.specs.Tails.{three}
+use Rattle.loader.specs.Values.{three_words_is}
 use Rattle.loader.proofs.Holding.{words_found, words_lost}
 use Rattle.loader.proofs.values.three_words.Goals as goal
 
-pub returns-in_default : goal.returns-in_default
+pub returns-in_err-a : goal.returns-in_err-a
 unfolding three
-returns-in_default c =
-    rw (words_lost c.args.file.now _ c.args.ka c.slot_words.result c.slot_words.ensures c.in_default.is)
+returns-in_err-a c =
+    ap (three_words_is c.args.ka c.args.kb c.args.kc c.args.file.now) c.from_residual.ensures ∙ rw (words_lost c.args.file.now _ c.args.ka c.slot_words.result c.slot_words.ensures c.in_err-a.was)
 
-pub returns-in_default-slot_words : goal.returns-in_default-slot_words
+pub returns-in_err-b : goal.returns-in_err-b
 unfolding three
-returns-in_default-slot_words c =
-    rw ((words_found c.args.file.now _ c.args.ka c.slot_words.result c.slot_words.ensures c.in-Are.a c.in-Are.ea c.in-Are.is), words_lost c.args.file.now _ c.args.kb c.slot_words-2.result c.slot_words-2.ensures c.in_default-slot_words.is)
+returns-in_err-b c =
+    ap (three_words_is c.args.ka c.args.kb c.args.kc c.args.file.now) c.from_residual-in_err-b.ensures ∙ rw ((words_found c.args.file.now _ c.args.ka c.slot_words.result c.slot_words.ensures c.in_ok-a.a c.in_ok-a.ea c.in_ok-a.was), words_lost c.args.file.now _ c.args.kb c.slot_words-2.result c.slot_words-2.ensures c.in_err-b.was)
 
-pub returns-in_default-slot_words-2 : goal.returns-in_default-slot_words-2
+pub returns-in_err-c : goal.returns-in_err-c
 unfolding three
-returns-in_default-slot_words-2 c =
-    rw ((words_found c.args.file.now _ c.args.ka c.slot_words.result c.slot_words.ensures c.in-Are.a c.in-Are.ea c.in-Are.is), (words_found c.args.file.now _ c.args.kb c.slot_words-2.result c.slot_words-2.ensures c.in-Are-slot_words.b c.in-Are-slot_words.eb c.in-Are-slot_words.is), words_lost c.args.file.now _ c.args.kc c.slot_words-3.result c.slot_words-3.ensures c.in_default-slot_words-2.is)
+returns-in_err-c c =
+    ap (three_words_is c.args.ka c.args.kb c.args.kc c.args.file.now) c.from_residual-in_err-c.ensures ∙ rw ((words_found c.args.file.now _ c.args.ka c.slot_words.result c.slot_words.ensures c.in_ok-a.a c.in_ok-a.ea c.in_ok-a.was), (words_found c.args.file.now _ c.args.kb c.slot_words-2.result c.slot_words-2.ensures c.in_ok-b.b c.in_ok-b.eb c.in_ok-b.was), words_lost c.args.file.now _ c.args.kc c.slot_words-3.result c.slot_words-3.ensures c.in_err-c.was)
 
 pub returns : goal.returns
 unfolding three
 returns c =
-    rw ((words_found c.args.file.now _ c.args.ka c.slot_words.result c.slot_words.ensures c.in-Are.a c.in-Are.ea c.in-Are.is), (words_found c.args.file.now _ c.args.kb c.slot_words-2.result c.slot_words-2.ensures c.in-Are-slot_words.b c.in-Are-slot_words.eb c.in-Are-slot_words.is), (words_found c.args.file.now _ c.args.kc c.slot_words-3.result c.slot_words-3.ensures c.in-Are-slot_words-2.c c.in-Are-slot_words-2.ec c.in-Are-slot_words-2.is))
+    rw ((words_found c.args.file.now _ c.args.ka c.slot_words.result c.slot_words.ensures c.in_ok-a.a c.in_ok-a.ea c.in_ok-a.was), (words_found c.args.file.now _ c.args.kb c.slot_words-2.result c.slot_words-2.ensures c.in_ok-b.b c.in_ok-b.eb c.in_ok-b.was), (words_found c.args.file.now _ c.args.kc c.slot_words-3.result c.slot_words-3.ensures c.in_ok-c.c c.in_ok-c.ec c.in_ok-c.was))
