@@ -3,11 +3,10 @@
 
 ghost use Rattle.std.specs.Prelude.{◌≡◌, ℕ, ◌+◌, ◌≤◌, ◌<◌, List, map, length};
 ghost use Rattle.std.specs.Prelude.{slice_get};
-ghost use Rattle.model.specs.Common.{eq_numbers};
 ghost use Rattle.records.specs.Layout.{name_by};
 ghost use Rattle.records.specs.Meaning.{name_of, numbers_of, names_with_types_of, suffix_of};
 ghost use Rattle.resolution.specs.TypeData.{TypeData as Data};
-ghost use Rattle.resolution.specs.Types.{eq_names, data_of, field_type, find_type, as_pointer, as_struct};
+ghost use Rattle.resolution.specs.Types.{eq_names, data_of, field_type, find_type, as_struct};
 ghost use Rattle.resolution.specs.TableOk.{row_types, TableOk};
 ghost use Rattle.resolution.specs.Views.{typed_fields, suffix_type};
 ghost use Rattle.type_table.specs.Layout.{part, head_at, items_at, names_at, type_count, item_count};
@@ -47,7 +46,8 @@ pub const ERROR: u32 = 4;
 
 pub const UNIT: u32 = 5;
 
-// The kinds of rows. A type without parts has its number as its kind; `()` is a tuple.
+// The kinds of rows, numbers since they lie in the lent words; `data` reads a row as a `TypeData`. A type without parts has its number as its kind; `()` is a
+// tuple.
 const KIND_TUPLE: u32 = 5;
 
 const KIND_POINTER: u32 = 6;
