@@ -1,28 +1,12 @@
 -- Parts of a list, and a list with one element stored. Assumes nothing.
-use Prim.Native.Nat.{ℕ, ◌+◌, ◌-◌, ◌≤◌, ◌<◌}
+use Prim.Native.Nat.{ℕ, ◌+◌, ◌≤◌, ◌<◌}
 use mathlib.Core.Path.{◌≡◌, sym, ap, ◌∙◌}
 use mathlib.Core.List.{List}
-use native.Mathlib.Nat.{le_of_lt}
 use native.Mathlib.Omega.{arith}
-use lib.ListN.{length, set, take, drop, length-drop, length-take, drop_of_length-le}
-use lib.Seq.{take_all, take-nil, drop-length, get_or-set_same, get_or-set_other, get_or-take, get_or-drop, length-take-le, ext_get_or}
+use lib.ListN.{length, set, drop, length-drop, length-take}
+use lib.Seq.{get_or-set_same, get_or-set_other, get_or-take, get_or-drop, length-take-le, ext_get_or}
 use Rattle.records.specs.Layout.{word}
 use Rattle.type_table.specs.Layout.{part}
-
--- a part that starts past the end is empty
-pub part_past : (l : List ℕ) (from count n : ℕ) → length l < from → take n (drop (length l) l) ≡ part l from count
-part_past l from count n past =
-    ap (take n) (drop-length l) ∙ take-nil n ∙ sym (ap (take count) (drop_of_length-le l (le_of_lt past)) ∙ take-nil count)
-
--- a part that ends past the end is what is left
-pub part_short : (l : List ℕ) (from count : ℕ) → length l - from < count → take (length l - from) (drop from l) ≡ part l from count
-part_short l from count short =
-    take_all (length l - from) (drop from l) (simp length-drop (omega arith)) ∙ sym (take_all count (drop from l) (simp length-drop (omega arith)))
-
-pub part_exact : (l : List ℕ) (from count : ℕ) → take (from + count - from) (drop from l) ≡ part l from count
-part_exact l from count =
-    let same : from + count - from ≡ count = omega arith in
-    ap (λ n. take n (drop from l)) same
 
 pub length_part : (l : List ℕ) (from count : ℕ) → from + count ≤ length l → length (part l from count) ≡ count
 length_part l from count fits = length-take-le count (drop from l) (simp length-drop (omega arith))

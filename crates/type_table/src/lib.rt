@@ -3,11 +3,10 @@
 
 ghost use Rattle.std.specs.Prelude.{◌≡◌, ℕ, ◌+◌, ◌≤◌, ◌<◌, List, map, length};
 ghost use Rattle.std.specs.Prelude.{slice_get};
-ghost use Rattle.model.specs.Common.{eq_numbers};
 ghost use Rattle.records.specs.Layout.{name_by};
 ghost use Rattle.records.specs.Meaning.{name_of, numbers_of, names_with_types_of, suffix_of};
 ghost use Rattle.resolution.specs.TypeData.{TypeData as Data};
-ghost use Rattle.resolution.specs.Types.{eq_names, data_of, field_type, find_type, as_pointer, as_struct};
+ghost use Rattle.resolution.specs.Types.{eq_names, data_of, field_type, find_type, as_struct};
 ghost use Rattle.resolution.specs.TableOk.{row_types, TableOk};
 ghost use Rattle.resolution.specs.Views.{typed_fields, suffix_type};
 ghost use Rattle.type_table.specs.Layout.{part, head_at, items_at, names_at, type_count, item_count};
@@ -34,34 +33,6 @@ const MAX_TYPES: u32 = 256;
 
 const MAX_ITEMS: usize = 2048;
 
-// The kinds of rows. A type without parts has its number as its kind; `()` is a tuple.
-pub const KIND_UNKNOWN: u32 = 3;
-
-pub const KIND_ERROR: u32 = 4;
-
-pub const KIND_TUPLE: u32 = 5;
-
-pub const KIND_POINTER: u32 = 6;
-
-pub const KIND_ARRAY: u32 = 7;
-
-pub const KIND_STRUCT: u32 = 8;
-
-pub const KIND_FUNCTION: u32 = 9;
-
-// The fixed words of a row. What its kind has no use for is zero.
-#[derive(Clone, Copy, PartialEq, Eq)]
-pub struct Head {
-    pub kind: u32,
-    // The module of a struct or a function.
-    pub home: u32,
-    pub definition: u32,
-    // The element of a pointer or an array, or a function's return type.
-    pub element: u32,
-    // The size of an array.
-    pub size: u64,
-}
-
 // The types that every question starts with.
 pub const FELT: u32 = 0;
 
@@ -74,6 +45,31 @@ pub const UNKNOWN: u32 = 3;
 pub const ERROR: u32 = 4;
 
 pub const UNIT: u32 = 5;
+
+// The kinds of rows, numbers since they lie in the lent words; `data` reads a row as a `TypeData`. A type without parts has its number as its kind; `()` is a
+// tuple.
+const KIND_TUPLE: u32 = 5;
+
+const KIND_POINTER: u32 = 6;
+
+const KIND_ARRAY: u32 = 7;
+
+const KIND_STRUCT: u32 = 8;
+
+const KIND_FUNCTION: u32 = 9;
+
+// The fixed words of a row. What its kind has no use for is zero.
+#[derive(Clone, Copy, PartialEq, Eq)]
+struct Head {
+    kind: u32,
+    // The module of a struct or a function.
+    home: u32,
+    definition: u32,
+    // The element of a pointer or an array, or a function's return type.
+    element: u32,
+    // The size of an array.
+    size: u64,
+}
 
 // A list of types: a range of the items.
 #[derive(Clone, Copy, PartialEq, Eq)]
@@ -118,15 +114,9 @@ pub struct Types<'a> {
 fn words_from(words: &[u32], from: usize, count: usize) -> &[u32]
     ensures { result.now ≡ part words.now from count }
 {
-    let len = words.len();
-    if len < from {
-        return &words[len..];
-    }
-    if len - from < count {
-        return &words[from..];
-    }
-    let end = from + count;
-    &words[from..end]
+    let start = from.min(words.len());
+    let end = start + count.min(words.len() - start);
+    &words[start..end]
 }
 
 // The fixed words of the row of a type.
@@ -216,11 +206,11 @@ pub fn start(types: &mut [u32])
     }
     clear(types);
     types[0] = 6;
-    types[10] = 1;
-    types[18] = 2;
-    types[26] = 3;
-    types[34] = 4;
-    types[42] = 5;
+    types[10] = BOOL;
+    types[18] = U32;
+    types[26] = UNKNOWN;
+    types[34] = ERROR;
+    types[42] = KIND_TUPLE;
 }
 
 // ------------------------------------------------------------------ reading rows
@@ -242,7 +232,7 @@ pub fn data(types: &[u32], t: u32) -> TypeData
         FELT => TypeData::Felt,
         BOOL => TypeData::Bool,
         U32 => TypeData::U32,
-        KIND_UNKNOWN => TypeData::Unknown,
+        UNKNOWN => TypeData::Unknown,
         KIND_TUPLE => TypeData::Tuple(list),
         KIND_POINTER => TypeData::Pointer(head.element),
         KIND_ARRAY => TypeData::FixedArray(head.element, head.size),

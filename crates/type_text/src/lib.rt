@@ -28,7 +28,7 @@ pub enum TextError {
 // ------------------------------------------------------------------ bytes and numbers
 
 // `put` and `put_decimal` ask for room, which their callers have measured, and `write_text` for a table as interning leaves it: measuring and writing go down
-// by type numbers, an element's below its holder's.
+// by type numbers, an element's below its holder's. The buffer is lent, and there is no heap: each takes a place in it and returns the place behind what it wrote.
 
 // Writes all of a text at a place, and returns the place behind it.
 pub fn put(out: &mut [u8], at: usize, text: &[u8]) -> usize
