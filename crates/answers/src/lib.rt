@@ -8,6 +8,8 @@ ghost use Rattle.resolution.specs.Answer.{type_text, Verdict, text_verdict, aske
 ghost use Rattle.resolution.specs.TableOk.{TableOk};
 ghost use Rattle.resolution.specs.TypeResolution.{none_word};
 ghost use Rattle.type_table.specs.Layout.{table_of, Sound};
+ghost use Rattle.type_table.specs.Promises.{cleared};
+ghost use Rattle.demands.specs.Meaning.{cleared_places};
 ghost use Rattle.views.specs.Asking.{asked_of};
 ghost use Rattle.line_text.specs.Lines.{line_with};
 ghost use Rattle.answers.specs.Numbers.{line_numbers, lines_numbers};
@@ -218,6 +220,15 @@ fn are_long(records: usize, types: usize, places: usize, bytes: usize) -> bool
     true
 }
 
+// All type words and places that document 01 counts are zero.
+fn clear_both(types: &mut [u32], demands: &mut [Place])
+    ensures types { types.new ≡ cleared types.old }
+    ensures demands { demands.new ≡ cleared_places demands.old }
+{
+    type_table::clear(types);
+    demands::clear(demands);
+}
+
 // The line of a question, both by their numbers, of a loaded file. A file that lacks the question is refused with 5, and its words are zero. Past the
 // last line the type words are zero.
 fn answer_loaded(
@@ -238,8 +249,7 @@ fn answer_loaded(
         return Err(NO_QUESTION);
     };
     let Some(asked) = views::asked_at(question, line) else {
-        type_table::clear(types);
-        demands::clear(demands);
+        clear_both(types, demands);
         return Ok(LineAnswer::PastLast);
     };
     let index = Index { file, words };

@@ -10,10 +10,11 @@ use Rattle.model.specs.Limits.{record_words}
 use Rattle.model.proofs.Tests.{ltb_lt, ltb-false}
 use Rattle.format.specs.Load.{load}
 use Rattle.format.proofs.Refused.{refused_few}
-use Rattle.loader.specs.Load.{loaded_is, Short, Filled}
-use Rattle.loader.specs.declared.Loaded.{Loaded}
-use Rattle.export.specs.Numbers.{packed_number, kind_of, high_of, low_of, RefusalFits, lines_by, lines_read}
-use Rattle.answers.specs.declared.LinesAnswer.{LinesAnswer}
+use Rattle.std.specs.Prelude.{Ok, Err}
+use Rattle.refusals.specs.Numbers.{file_refusal_number}
+use Rattle.loader.specs.Load.{Loaded, loaded_is, Short, Filled}
+use Rattle.export.specs.Numbers.{packed_number, kind_of, high_of, low_of, RefusalFits, loaded_numbers, lines_by, lines_read}
+use Rattle.answers.specs.Numbers.{LinesNumbers}
 
 -- whatever is made of a kind and two numbers
 pub read_back : {A : Type 0} (by : ℕ → ℕ → ℕ → A) (kind high low : ℕ) → kind < 65536 → high < 65536 → low < 4294967296
@@ -26,22 +27,22 @@ read_back by kind high low kind_small high_small low_small r is =
 
 -- the line to go on with and the bytes share the last 32 bits
 pub more_back : (next line bytes : ℕ) → next < 65536 → line < 65536 → bytes < 65536
-    → (r : ℕ) → r ≡ packed_number 1 next (line * 65536 + bytes % 65536) → lines_read r ≡ LinesAnswer.More next line bytes
+    → (r : ℕ) → r ≡ packed_number 1 next (line * 65536 + bytes % 65536) → lines_read r ≡ LinesNumbers.More next line bytes
 more_back next line bytes next_small Line_small bytes_small r is =
     let low = line * 65536 + bytes % 65536 in
     let line_same : low / 65536 ≡ line = omega (arith, Line_small, bytes_small) in
     let bytes_same : low % 65536 ≡ bytes = omega (arith, Line_small, bytes_small) in
-    read_back lines_by 1 next low (omega arith) next_small (omega (arith, Line_small, bytes_small)) r is ∙ ap₂ (LinesAnswer.More next) line_same bytes_same
+    read_back lines_by 1 next low (omega arith) next_small (omega (arith, Line_small, bytes_small)) r is ∙ ap₂ (LinesNumbers.More next) line_same bytes_same
 
 -- a buffer that is too short is refused with 1, a file with at most 5
 pub loaded_fits : (file before after : List ℕ) (loaded : Loaded) → (length before < record_words → Short before after loaded)
-    → (record_words ≤ length before → Filled file before after loaded) → RefusalFits loaded
+    → (record_words ≤ length before → Filled file before after loaded) → RefusalFits (loaded_numbers loaded)
 loaded_fits file before after loaded short full = by_length (ltb (length before) record_words) refl
   where
-    few : (r : Loaded) → loaded_is file (take record_words after) r ≡ load file → RefusalFits r
-    few Loaded.Accepted is = tt
-    few (Loaded.Refused refusal line) is = refused_few file refusal line (sym is)
+    few : (r : Loaded) → loaded_is file (take record_words after) r ≡ load file → RefusalFits (loaded_numbers r)
+    few (Ok u) is = tt
+    few (Err e) is = refused_few file (file_refusal_number e.refusal) e.line (sym is)
 
-    by_length : (b : Bool) → ltb (length before) record_words ≡ b → RefusalFits loaded
-    by_length true h = subst RefusalFits (sym (short (ltb_lt (length before) record_words h)).is) (omega arith)
+    by_length : (b : Bool) → ltb (length before) record_words ≡ b → RefusalFits (loaded_numbers loaded)
+    by_length true h = subst (λ r. RefusalFits (loaded_numbers r)) (sym (short (ltb_lt (length before) record_words h)).is) (omega arith)
     by_length false h = few loaded (full (ltb-false (length before) record_words h)).is

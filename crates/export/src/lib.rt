@@ -3,13 +3,15 @@
 #![tactic(auto)]
 
 ghost use Rattle.std.specs.Prelude.{◌≡◌};
+ghost use Rattle.refusals.specs.Numbers.{file_refusal_number};
+ghost use Rattle.answers.specs.Numbers.{line_numbers, lines_numbers};
 ghost use Rattle.answers.specs.Promises.{buffers};
-ghost use Rattle.export.specs.Numbers.{packed_number, LoadedPacked, LinePacked, LinesPacked};
+ghost use Rattle.export.specs.Numbers.{packed_number, loaded_numbers, LoadedPacked, LinePacked, LinesPacked};
 ghost use Rattle.export.specs.Numbers.{Exported, ExportedAnswer, ExportedAnswers};
 
 use answers::{LineAnswer, LinesAnswer};
 use demands::Place;
-use loader::Loaded;
+use refusals::FileRefused;
 
 // ------------------------------------------------------------------ results as numbers
 
@@ -19,39 +21,50 @@ fn packed(kind: u64, high: u64, low: u64) -> u64
     (kind % 65536) * 281474976710656 + (high % 65536) * 4294967296 + low % 4294967296
 }
 
-fn loaded_result(loaded: Loaded) -> u64
-    ensures { LoadedPacked loaded result }
+// A file's refusal: kind 3, its number and its line.
+fn file_refused(refused: FileRefused) -> u64
+    ensures { result ≡ packed_number 3 (file_refusal_number refused.refusal) refused.line }
+{
+    packed(3, refused.refusal.number() as u64, refused.line as u64)
+}
+
+fn loaded_result(loaded: Result<(), FileRefused>) -> u64
+    ensures { LoadedPacked (loaded_numbers loaded) result }
 {
     match loaded {
-        Loaded::Accepted => packed(0, 0, 0),
-        Loaded::Refused(refusal, line) => packed(3, refusal as u64, line as u64),
+        Ok(_) => packed(0, 0, 0),
+        Err(refused) => file_refused(refused),
     }
 }
 
-fn line_result(answer: LineAnswer) -> u64
-    ensures { LinePacked answer result }
+fn line_result(answer: Result<LineAnswer, FileRefused>) -> u64
+    ensures { LinePacked (line_numbers answer) result }
 {
     match answer {
-        LineAnswer::Line(bytes) => packed(0, 0, bytes as u64),
-        LineAnswer::Refused(refusal, bytes) => packed(1, refusal as u64, bytes as u64),
-        LineAnswer::PastLast => packed(2, 0, 0),
-        LineAnswer::FileRefused(refusal, at) => packed(3, refusal as u64, at as u64),
+        Ok(answer) => match answer {
+            LineAnswer::Line(bytes) => packed(0, 0, bytes as u64),
+            LineAnswer::Refused(refusal) => packed(1, refusal.number() as u64, 0),
+            LineAnswer::PastLast => packed(2, 0, 0),
+        },
+        Err(refused) => file_refused(refused),
     }
 }
 
-fn lines_result(answer: LinesAnswer) -> u64
-    ensures { LinesPacked answer result }
+fn lines_result(answer: Result<LinesAnswer, FileRefused>) -> u64
+    ensures { LinesPacked (lines_numbers answer) result }
 {
     match answer {
-        LinesAnswer::More(next, line, bytes) => {
-            packed(
-                1,
-                next as u64,
-                (line as u64) * 65536 + ((bytes % 65536) as u64),
-            )
-        }
-        LinesAnswer::End(bytes) => packed(0, 0, bytes as u64),
-        LinesAnswer::FileRefused(refusal, at) => packed(3, refusal as u64, at as u64),
+        Ok(answer) => match answer {
+            LinesAnswer::More(next, line, bytes) => {
+                packed(
+                    1,
+                    next as u64,
+                    (line as u64) * 65536 + ((bytes % 65536) as u64),
+                )
+            }
+            LinesAnswer::End(bytes) => packed(0, 0, bytes as u64),
+        },
+        Err(refused) => file_refused(refused),
     }
 }
 

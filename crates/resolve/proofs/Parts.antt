@@ -12,7 +12,7 @@ use Rattle.line_text.specs.Lines.{put_first}
 use Rattle.answers.specs.Meaning.{Lines, lines_from, answers_of, lines_out}
 use Rattle.answers.specs.Promises.{Buffers, AnsweredFrom}
 use Rattle.answers.specs.Whole.{Calls}
-use Rattle.answers.specs.declared.LinesAnswer.{LinesAnswer}
+use Rattle.answers.specs.Numbers.{LinesNumbers}
 use Rattle.answers.proofs.Whole.{always_later}
 use Rattle.resolve.specs.Parts.{RefusedPut, More, Last}
 
@@ -24,11 +24,11 @@ within : (text old out : Text) → out ≡ put_first text old → length text �
 within text old out e = omega (arith, ap length e, length-append text (drop (length text) old))
 
 module _ (file : Text) (from start : ℕ) (before after : Buffers) where
-  pub more_part : (next next_line n : ℕ) → AnsweredFrom file from start before after (LinesAnswer.More next next_line n) → More file from start after.out next next_line n
+  pub more_part : (next next_line n : ℕ) → AnsweredFrom file from start before after (LinesNumbers.More next next_line n) → More file from start after.out next next_line n
   unfolding answers_of lines_out
   more_part next next_line n promised = at (lines_from file from start) refl promised.first.is promised.first.out_is
     where
-      at : (lines : Lines) → lines_from file from start ≡ lines → LinesAnswer.More next next_line n ≡ answers_of lines → after.out ≡ lines_out lines before.out → More file from start after.out next next_line n
+      at : (lines : Lines) → lines_from file from start ≡ lines → LinesNumbers.More next next_line n ≡ answers_of lines → after.out ≡ lines_out lines before.out → More file from start after.out next next_line n
       at (Lines.end text) e is out = let z : ◌≡◌ {A = ℕ} 0 1 = cc in absurd (omega arith)
       at (Lines.more number number_line text) e is out =
           let same : number ≡ next = cc in
@@ -44,11 +44,11 @@ module _ (file : Text) (from start : ℕ) (before after : Buffers) where
           }
       at (Lines.file_refused number line) e is out = let z : ◌≡◌ {A = ℕ} 0 1 = cc in absurd (omega arith)
 
-  pub end_part : (n : ℕ) → AnsweredFrom file from start before after (LinesAnswer.End n) → Last file from start after.out n
+  pub end_part : (n : ℕ) → AnsweredFrom file from start before after (LinesNumbers.End n) → Last file from start after.out n
   unfolding answers_of lines_out
   end_part n promised = at (lines_from file from start) refl promised.first.is promised.first.out_is
     where
-      at : (lines : Lines) → lines_from file from start ≡ lines → LinesAnswer.End n ≡ answers_of lines → after.out ≡ lines_out lines before.out → Last file from start after.out n
+      at : (lines : Lines) → lines_from file from start ≡ lines → LinesNumbers.End n ≡ answers_of lines → after.out ≡ lines_out lines before.out → Last file from start after.out n
       at (Lines.end text) e is out =
           let long : length text ≡ n = cc in
           record {
@@ -58,12 +58,12 @@ module _ (file : Text) (from start : ℕ) (before after : Buffers) where
       at (Lines.more number number_line text) e is out = let z : ◌≡◌ {A = ℕ} 0 1 = cc in absurd (omega arith)
       at (Lines.file_refused number line) e is out = let z : ◌≡◌ {A = ℕ} 0 1 = cc in absurd (omega arith)
 
-  pub refused_part : (number line : ℕ) → AnsweredFrom file from start before after (LinesAnswer.FileRefused number line)
+  pub refused_part : (number line : ℕ) → AnsweredFrom file from start before after (LinesNumbers.FileRefused number line)
       → (out : Text) (n : ℕ) → 4160 ≤ length after.out → length out ≡ length after.out → RefusedPut (refusal_line number line) after.out out n → Last file from start out n
   unfolding answers_of
   refused_part number line promised out n room same put = at (lines_from file from start) refl promised.first.is
     where
-      at : (lines : Lines) → lines_from file from start ≡ lines → LinesAnswer.FileRefused number line ≡ answers_of lines → Last file from start out n
+      at : (lines : Lines) → lines_from file from start ≡ lines → LinesNumbers.FileRefused number line ≡ answers_of lines → Last file from start out n
       at (Lines.end text) e is = let z : ◌≡◌ {A = ℕ} 0 1 = cc in absurd (omega arith)
       at (Lines.more next next_line text) e is = let z : ◌≡◌ {A = ℕ} 0 1 = cc in absurd (omega arith)
       at (Lines.file_refused k l) e is =

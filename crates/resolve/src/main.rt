@@ -76,9 +76,11 @@ fn next_part(
     ensures { PartIs file.now from line out.new result }
 {
     match answers::answer_from(file, from, line, records, types, demands, out) {
-        LinesAnswer::More(next, next_line, n) => Part::More(next, next_line, n),
-        LinesAnswer::End(n) => Part::Last(n),
-        LinesAnswer::FileRefused(number, at) => Part::Last(put_refused(number, at, out)),
+        Ok(lines) => match lines {
+            LinesAnswer::More(next, next_line, n) => Part::More(next, next_line, n),
+            LinesAnswer::End(n) => Part::Last(n),
+        },
+        Err(refused) => Part::Last(put_refused(refused.refusal.number(), refused.line, out)),
     }
 }
 

@@ -22,9 +22,8 @@ returns-in_default-asked_at c =
     let index = index_of a.file.now a.words.now in
     let q = question_of c.in-Some.question in
     let has = sym (c.question_at.ensures a.file.now) ∙ ap found_question_of c.in-Some.is in
-    let types = c.clear-in_default-asked_at in
-    let places = c.clear-in_default-asked_at-2 in
-    past_reply a.file.now a.number a.line a.types.now a.demands.now a.out.now a.words.now q pre.is has types.new.types places.new.demands a.out.now (ap found_asked_of (sym c.in_default-asked_at.is) ∙ c.asked_at.ensures index) (types.ensures ∙ types_zero a.types.now pre.exact.types_long) (places.ensures ∙ places_zero a.demands.now pre.exact.places_long)
+    let past = c.clear_both in
+    past_reply a.file.now a.number a.line a.types.now a.demands.now a.out.now a.words.now q pre.is has past.new.types past.new.demands a.out.now (ap found_asked_of (sym c.in_default-asked_at.is) ∙ c.asked_at.ensures index) (past.ensures.types ∙ types_zero a.types.now pre.exact.types_long) (past.ensures.demands ∙ places_zero a.demands.now pre.exact.places_long)
 
 pub returns-in-Ok : goal.returns-in-Ok
 returns-in-Ok c =

@@ -1,6 +1,12 @@
 -- `resolve::next_part` meets its contract: by what the call gives. Assumes nothing.
 use native.Mathlib.Omega.{arith}
-use Rattle.answers.specs.Promises.{buffers}
+use Rattle.refusals.specs.Numbers.{file_refusal_number}
+use mathlib.Core.Path.{subst}
+use Rattle.std.specs.Prelude.{Ok}
+use Rattle.answers.specs.Numbers.{lines_numbers}
+use Rattle.resolution.specs.Resolve.{refusal_line}
+use Rattle.resolve.specs.Parts.{RefusedPut}
+use Rattle.answers.specs.Promises.{buffers, AnsweredFrom}
 use Rattle.resolve.proofs.Parts.{more_part, end_part, refused_part}
 use Rattle.resolve.proofs.next_part.Goals as goal
 
@@ -9,18 +15,18 @@ returns-in-More c =
     let a = c.args in
     let new = c.answer_from.new in
     let case = c.in-More in
-    more_part a.file.now a.from a.line (buffers a.records.now a.types.now a.demands.now a.out.now) (buffers new.records new.types new.demands new.out) case.next case.next_line case.n (case.ensures.full c.requires)
+    more_part a.file.now a.from a.line (buffers a.records.now a.types.now a.demands.now a.out.now) (buffers new.records new.types new.demands new.out) case.next case.next_line case.n (subst (λ l. AnsweredFrom a.file.now a.from a.line (buffers a.records.now a.types.now a.demands.now a.out.now) (buffers new.records new.types new.demands new.out) (lines_numbers (Ok l))) case.is (c.in-Ok.ensures.full c.requires))
 
 pub returns-in-End : goal.returns-in-End
 returns-in-End c =
     let a = c.args in
     let new = c.answer_from.new in
-    end_part a.file.now a.from a.line (buffers a.records.now a.types.now a.demands.now a.out.now) (buffers new.records new.types new.demands new.out) c.in-End.n (c.in-End.ensures.full c.requires)
+    end_part a.file.now a.from a.line (buffers a.records.now a.types.now a.demands.now a.out.now) (buffers new.records new.types new.demands new.out) c.in-End.n (subst (λ l. AnsweredFrom a.file.now a.from a.line (buffers a.records.now a.types.now a.demands.now a.out.now) (buffers new.records new.types new.demands new.out) (lines_numbers (Ok l))) c.in-End.is (c.in-Ok.ensures.full c.requires))
 
-pub returns-in-FileRefused : goal.returns-in-FileRefused
-returns-in-FileRefused c =
+pub returns-in-Err : goal.returns-in-Err
+returns-in-Err c =
     let a = c.args in
     let new = c.answer_from.new in
-    let case = c.in-FileRefused in
+    let case = c.in-Err in
     let put = c.put_refused in
-    refused_part a.file.now a.from a.line (buffers a.records.now a.types.now a.demands.now a.out.now) (buffers new.records new.types new.demands new.out) case.number case.at (case.ensures.full c.requires) put.new.out put.result (omega (arith, c.answer_from.auto.out, c.requires.bytes_long)) put.auto.out put.ensures
+    refused_part a.file.now a.from a.line (buffers a.records.now a.types.now a.demands.now a.out.now) (buffers new.records new.types new.demands new.out) (file_refusal_number case.refused.refusal) case.refused.line (case.ensures.full c.requires) put.new.out put.result (omega (arith, c.answer_from.auto.out, c.requires.bytes_long)) put.auto.out (subst (λ n. RefusedPut (refusal_line n case.refused.line) new.out put.new.out put.result) c.number.ensures put.ensures)
