@@ -17,7 +17,7 @@ best_of = option_map (λ best. record { number = best.0; length = best.1 })
 abbrev pub Finds : (FileScopeId → Option DefinitionIndex → Type 0) → (ℕ → Option ℕ) → Type 0
 Finds answers find = (at : FileScopeId) (found : Option DefinitionIndex) → answers at found → definition_link_of found ≡ find at.0
 
--- the first definition that calls which answer like this find along the chain of a scope: of whichever function of a scope's number they compute
+-- what calls that answer like this find first along a scope's chain, whichever function of a scope's number they compute
 pub record FirstInChain (answers : FileScopeId → Option DefinitionIndex → Type 0) (words : List ℕ) (m : ℕ) (s : FileScopeId)
     (r : Option DefinitionIndex) : Type 0 where
   pub first : (file : List ℕ) (find : ℕ → Option ℕ) → Finds answers find
