@@ -205,19 +205,10 @@ fn answer_lines(
 fn are_long(records: usize, types: usize, places: usize, bytes: usize) -> bool
     ensures { LongIs records types places bytes result }
 {
-    if records < loader::RECORD_WORDS {
-        return false;
-    }
-    if types < type_table::WORDS {
-        return false;
-    }
-    if places < demands::PLACES {
-        return false;
-    }
-    if bytes < ANSWER_BYTES {
-        return false;
-    }
-    true
+    records >= loader::RECORD_WORDS
+        && types >= type_table::WORDS
+        && places >= demands::PLACES
+        && bytes >= ANSWER_BYTES
 }
 
 // Makes all type words and places that document 01 counts zero.
