@@ -12,7 +12,7 @@ ghost use Rattle.records.specs.Layout.{scope_row, type_expr_row, definition_row,
 ghost use Rattle.records.specs.Layout.{module_row, index_of};
 ghost use Rattle.records.specs.Meaning.{numbers_of, links_of, type_link_of, definition_link_of, expression_link_of};
 ghost use Rattle.records.specs.Meaning.{definition_kind_of, origin_of, expression_of};
-ghost use Rattle.links.specs.Promises.{LineCount};
+ghost use Rattle.links.specs.Promises.{FirstFault, LineCount};
 
 use records::{
     DefinitionKind, Expression, ExpressionId, FileScopeId, Items, Origin, Question, RecordNumber,
@@ -318,6 +318,19 @@ fn question_linked(words: &[u32], q: u32) -> bool
 
 // ------------------------------------------------------------------ the first row of a kind whose links don't lead
 
+// The first number below `count` for which the links don't lead.
+fn first_fault<F: Fn(u32) -> bool>(count: u32, linked: F) -> Option<u32>
+    requires { F.IsAlwaysCallable linked }
+    ensures { FirstFault (F.post linked) count result }
+{
+    for i in 0..count {
+        if !linked(i) {
+            return Some(i);
+        }
+    }
+    None
+}
+
 // The module's first scope whose parent is not as it must be.
 fn scope_fault(words: &[u32], m: u32) -> Option<u32>
     ensures { (file : List ℕ) → result
@@ -325,13 +338,7 @@ fn scope_fault(words: &[u32], m: u32) -> Option<u32>
 {
     let rows = records::rows_of(words, m, records::SCOPE_ROWS);
     let begin = rows.first;
-    let count = rows.count;
-    for s in 0..count {
-        if !scope_linked(words, begin, s) {
-            return Some(s);
-        }
-    }
-    None
+    first_fault(rows.count, |s| scope_linked(words, begin, s))
 }
 
 // The module's first T that names one which is not earlier.
@@ -341,13 +348,7 @@ fn type_fault(words: &[u32], m: u32) -> Option<u32>
 {
     let rows = records::rows_of(words, m, records::TYPE_EXPR_ROWS);
     let begin = rows.first;
-    let count = rows.count;
-    for t in 0..count {
-        if !type_linked(words, begin, t) {
-            return Some(t);
-        }
-    }
-    None
+    first_fault(rows.count, |t| type_linked(words, begin, t))
 }
 
 // The module's first D with a link to no record of the module.
@@ -358,13 +359,7 @@ fn definition_fault(words: &[u32], m: u32) -> Option<u32>
 {
     let rows = records::rows_of(words, m, records::DEFINITION_ROWS);
     let begin = rows.first;
-    let count = rows.count;
-    for d in 0..count {
-        if !definition_linked(words, m, begin, d) {
-            return Some(d);
-        }
-    }
-    None
+    first_fault(rows.count, |d| definition_linked(words, m, begin, d))
 }
 
 // The module's first E with a link to no record of the module.
@@ -375,13 +370,7 @@ fn expression_fault(words: &[u32], m: u32) -> Option<u32>
 {
     let rows = records::rows_of(words, m, records::EXPRESSION_ROWS);
     let begin = rows.first;
-    let count = rows.count;
-    for e in 0..count {
-        if !expression_linked(words, m, begin, e) {
-            return Some(e);
-        }
-    }
-    None
+    first_fault(rows.count, |e| expression_linked(words, m, begin, e))
 }
 
 // The number of the first question whose links don't lead.
@@ -391,12 +380,8 @@ pub fn question_fault(words: &[u32]) -> Option<usize>
         (index_of file words.now).questions) }
 {
     let count = records::question_count(words);
-    for q in 0..count {
-        if !question_linked(words, q) {
-            return Some(q as usize);
-        }
-    }
-    None
+    let fault = first_fault(count, |q| question_linked(words, q))?;
+    Some(fault as usize)
 }
 
 // ------------------------------------------------------------------ the lines of a module
