@@ -177,18 +177,23 @@ each_numbered test row from n (suc count) =
     over : (a b : ℕ) → a + suc b ≡ suc (a + b)
     over a b = omega arith
 
--- over a module's rows of a kind, with the rows' numbers or without
-module _ {A : Type 0} (row : ℕ → A) (words : List ℕ) (m kind from count : ℕ) (begins : from ≡ begin_of words m kind) (counts : count ≡ count_of words m kind) where
-  pub numbered_tests : (test : ℕ → A → Bool) → each (λ k. test k (row (from + k))) 0 count ≡ map_from test 0 (rows_of row words m kind)
-  unfolding rows_of
-  numbered_tests test =
-      each_numbered test row from 0 count
-      ∙ ap₂ (λ a n. map_from test 0 (each row a n)) (add-zero from ∙ begins) counts
+-- over a list that begins at row `from`, and over a module's rows of a kind, with the rows' numbers or without
+module _ {A : Type 0} (row : ℕ → A) (from count : ℕ) where
+  rows_numbered : (test : ℕ → A → Bool) → each (λ k. test k (row (from + k))) 0 count ≡ map_from test 0 (each row from count)
+  rows_numbered test = each_numbered test row from 0 count ∙ ap (λ a. map_from test 0 (each row a count)) (add-zero from)
 
-  pub rows_tests : (test : A → Bool) → each (λ k. test (row (from + k))) 0 count ≡ map test (rows_of row words m kind)
-  rows_tests test = numbered_tests (λ k. test) ∙ sym (map_numbered test 0 (rows_of row words m kind))
+  pub items_tests : (test : A → Bool) → each (λ k. test (row (from + k))) 0 count ≡ map test (each row from count)
+  items_tests test = rows_numbered (λ k. test) ∙ sym (map_numbered test 0 (each row from count))
 
--- over the rows of a list
+  module _ (words : List ℕ) (m kind : ℕ) (begins : from ≡ begin_of words m kind) (counts : count ≡ count_of words m kind) where
+    pub numbered_tests : (test : ℕ → A → Bool) → each (λ k. test k (row (from + k))) 0 count ≡ map_from test 0 (rows_of row words m kind)
+    unfolding rows_of
+    numbered_tests test = rows_numbered test ∙ ap₂ (λ a n. map_from test 0 (each row a n)) begins counts
+
+    pub rows_tests : (test : A → Bool) → each (λ k. test (row (from + k))) 0 count ≡ map test (rows_of row words m kind)
+    rows_tests test = numbered_tests (λ k. test) ∙ sym (map_numbered test 0 (rows_of row words m kind))
+
+-- over a list whose rows have their numbers in the file
 pub list_tests : {A : Type 0} (test : A → Bool) (row : ℕ → A) (from count : ℕ) → each (λ k. test (row k)) from count ≡ map test (each row from count)
 unfolding each
 list_tests test row from zero = refl

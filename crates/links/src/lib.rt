@@ -19,6 +19,21 @@ use records::{
     TypeExpr,
 };
 
+// ------------------------------------------------------------------ the first that fails a test
+
+// The first number below `count` that fails the test.
+fn first_fault<F: Fn(u32) -> bool>(count: u32, test: F) -> Option<u32>
+    requires { F.IsAlwaysCallable test }
+    ensures { FirstFault (F.post test) count result }
+{
+    for i in 0..count {
+        if !test(i) {
+            return Some(i);
+        }
+    }
+    None
+}
+
 // ------------------------------------------------------------------ links below a number of records
 
 // Each number of the list is below `n`.
@@ -26,14 +41,7 @@ fn numbers_below(words: &[u32], items: Items, n: u32) -> bool
     ensures { result ≡ all_below n (numbers_of words.now items) }
 {
     let begin = items.first;
-    let count = items.count;
-    for i in 0..count {
-        let k = records::item_value(words, begin, i);
-        if n <= k {
-            return false;
-        }
-    }
-    true
+    first_fault(items.count, |i| records::item_value(words, begin, i) < n).is_none()
 }
 
 // A link that is there is below `n`.
@@ -61,14 +69,11 @@ fn links_below(words: &[u32], items: Items, n: u32) -> bool
     ensures { result ≡ all_below n (links (links_of words.now items)) }
 {
     let begin = items.first;
-    let count = items.count;
-    for i in 0..count {
-        let to = records::item_link(words, begin, i);
-        if !link_below(to, n) {
-            return false;
-        }
-    }
-    true
+    first_fault(
+        items.count,
+        |i| link_below(records::item_link(words, begin, i), n),
+    )
+    .is_none()
 }
 
 // ------------------------------------------------------------------ scopes and type expressions
@@ -317,19 +322,6 @@ fn question_linked(words: &[u32], q: u32) -> bool
 }
 
 // ------------------------------------------------------------------ the first row of a kind whose links don't lead
-
-// The first number below `count` for which the links don't lead.
-fn first_fault<F: Fn(u32) -> bool>(count: u32, linked: F) -> Option<u32>
-    requires { F.IsAlwaysCallable linked }
-    ensures { FirstFault (F.post linked) count result }
-{
-    for i in 0..count {
-        if !linked(i) {
-            return Some(i);
-        }
-    }
-    None
-}
 
 // The module's first scope whose parent is not as it must be.
 fn scope_fault(words: &[u32], m: u32) -> Option<u32>

@@ -9,4 +9,4 @@ use Rattle.links.proofs.Lines.{fault_from}
 use Rattle.links.proofs.first_fault.Given as goal
 
 abbrev pub invariant-loop-i : goal.invariant-loop-i
-invariant-loop-i g l = (test : ℕ → Bool) → Tests (goal.F-post g l.linked) l.count test → first not (each test 0 l.count) ≡ fault_from test l.count l.i
+invariant-loop-i g l = (test : ℕ → Bool) → Tests (goal.F-post g l.test) l.count test → first not (each test 0 l.count) ≡ fault_from test l.count l.i
