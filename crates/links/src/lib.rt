@@ -16,7 +16,7 @@ ghost use Rattle.links.specs.Promises.{FirstFault, LineCount};
 
 use records::{
     DefinitionKind, Expression, ExpressionId, FileScopeId, Items, Origin, Question, RecordNumber,
-    TypeExpr,
+    RowKind, TypeExpr,
 };
 
 // ------------------------------------------------------------------ the first that fails a test
@@ -328,7 +328,7 @@ fn scope_fault(words: &[u32], m: u32) -> Option<u32>
     ensures { (file : List ℕ) → result
         ≡ first not (map_from scope_linked 0 (module_row file words.now m).scopes) }
 {
-    let rows = records::rows_of(words, m, records::SCOPE_ROWS);
+    let rows = records::rows_of(words, m, RowKind::Scope);
     let begin = rows.first;
     first_fault(rows.count, |s| scope_linked(words, begin, s))
 }
@@ -338,7 +338,7 @@ fn type_fault(words: &[u32], m: u32) -> Option<u32>
     ensures { (file : List ℕ) → result
         ≡ first not (map_from type_linked 0 (module_row file words.now m).types) }
 {
-    let rows = records::rows_of(words, m, records::TYPE_EXPR_ROWS);
+    let rows = records::rows_of(words, m, RowKind::TypeExpr);
     let begin = rows.first;
     first_fault(rows.count, |t| type_linked(words, begin, t))
 }
@@ -349,7 +349,7 @@ fn definition_fault(words: &[u32], m: u32) -> Option<u32>
         ≡ first not (map (definition_linked (module_row file words.now m))
         (module_row file words.now m).definitions) }
 {
-    let rows = records::rows_of(words, m, records::DEFINITION_ROWS);
+    let rows = records::rows_of(words, m, RowKind::Definition);
     let begin = rows.first;
     first_fault(rows.count, |d| definition_linked(words, m, begin, d))
 }
@@ -360,7 +360,7 @@ fn expression_fault(words: &[u32], m: u32) -> Option<u32>
         ≡ first not (map (expression_linked (module_row file words.now m))
         (module_row file words.now m).expressions) }
 {
-    let rows = records::rows_of(words, m, records::EXPRESSION_ROWS);
+    let rows = records::rows_of(words, m, RowKind::Expression);
     let begin = rows.first;
     first_fault(rows.count, |e| expression_linked(words, m, begin, e))
 }

@@ -1,7 +1,7 @@
 -- What the values of the code mean in the model: names are parts of the file, lists are ranges of the item rows. Definitions only.
 use Rattle.std.specs.Prelude.{ℕ, List, Option, option_map}
 use Rattle.model.specs.Records as model
-use Rattle.records.specs.Layout.{bytes_at, numbers_at, links_at, names_with_types_at}
+use Rattle.records.specs.Layout.{bytes_at, numbers_at, links_at, names_with_types_at, scope_rows, type_expr_rows, definition_rows, expression_rows}
 use Rattle.records.specs.declared.FileScopeId.{FileScopeId}
 use Rattle.records.specs.declared.DefinitionIndex.{DefinitionIndex}
 use Rattle.records.specs.declared.ExpressionId.{ExpressionId}
@@ -18,6 +18,13 @@ use Rattle.records.specs.declared.BinaryOp.{BinaryOp}
 use Rattle.records.specs.declared.Expression.{Expression}
 use Rattle.records.specs.declared.ExpressionInfo.{ExpressionInfo}
 use Rattle.records.specs.declared.Question.{Question}
+use Rattle.records.specs.declared.RowKind.{RowKind}
+
+abbrev pub row_kind_number : RowKind → ℕ
+row_kind_number RowKind.Scope = scope_rows
+row_kind_number RowKind.TypeExpr = type_expr_rows
+row_kind_number RowKind.Definition = definition_rows
+row_kind_number RowKind.Expression = expression_rows
 
 abbrev pub name_of : List ℕ → Name → model.Name
 name_of file n = bytes_at file n.start n.length
