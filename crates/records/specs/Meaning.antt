@@ -182,5 +182,8 @@ found_question_of = option_map question_of
 abbrev pub link_item_of : Option (Option ExpressionId) → Option (Option ℕ)
 link_item_of = option_map expression_link_of
 
+abbrev pub named_type_of : List ℕ → Name × ℕ → model.NameWithType
+named_type_of file item = record { name = name_of file item.0; type = item.1 }
+
 abbrev pub name_with_type_item_of : List ℕ → Option (Name × ℕ) → Option model.NameWithType
-name_with_type_item_of file = option_map (λ item. record { name = name_of file item.0; type = item.1 })
+name_with_type_item_of file = option_map (named_type_of file)

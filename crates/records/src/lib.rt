@@ -344,19 +344,17 @@ pub fn suffix_of(v: u32) -> Option<Name>
 // ------------------------------------------------------------------ rows
 
 // The rows of a kind that a module has. They end where those of the next module begin.
+// A function for each kind counts them, and another reads one by its number: each promise speaks of another list of the module, so that one
+// function for all kinds would have to promise by cases. What they share is here, in `rows_of` and in `then`.
 pub fn rows_of(words: &[u32], m: u32, kind: RowKind) -> Rows
     ensures { RowsOf words.now m (row_kind_number kind) result }
 {
     let at = MODULES + 8 * (m as usize);
     let first = word_at(words, at + (kind as usize));
     let end = word_at(words, at + 8 + (kind as usize));
-    if first < end {
-        Rows {
-            first,
-            count: end - first,
-        }
-    } else {
-        Rows { first, count: 0 }
+    Rows {
+        first,
+        count: end.saturating_sub(first),
     }
 }
 
@@ -389,11 +387,7 @@ pub fn scope_at(words: &[u32], m: u32, s: FileScopeId) -> Option<Scope>
 {
     let rows = rows_of(words, m, RowKind::Scope);
     let i = s.0;
-    if i < rows.count {
-        Some(scope_row(words, rows.first, i))
-    } else {
-        None
-    }
+    (i < rows.count).then(|| scope_row(words, rows.first, i))
 }
 
 // How many scopes a module has.
@@ -446,11 +440,7 @@ pub fn type_expr_at(words: &[u32], m: u32, t: u32) -> Option<TypeExpr>
         ≡ type_expr_at (module_row file words.now m) t }
 {
     let rows = rows_of(words, m, RowKind::TypeExpr);
-    if t < rows.count {
-        Some(type_expr_row(words, rows.first, t))
-    } else {
-        None
-    }
+    (t < rows.count).then(|| type_expr_row(words, rows.first, t))
 }
 
 // How many type expressions a module has.
@@ -534,11 +524,7 @@ pub fn definition_at(words: &[u32], m: u32, d: DefinitionIndex) -> Option<Defini
 {
     let rows = rows_of(words, m, RowKind::Definition);
     let i = d.0;
-    if i < rows.count {
-        Some(definition_row(words, rows.first, i))
-    } else {
-        None
-    }
+    (i < rows.count).then(|| definition_row(words, rows.first, i))
 }
 
 // How many definitions a module has.
@@ -662,11 +648,7 @@ pub fn expression_at(words: &[u32], m: u32, e: ExpressionId) -> Option<Expressio
 {
     let rows = rows_of(words, m, RowKind::Expression);
     let i = e.0;
-    if i < rows.count {
-        Some(expression_row(words, rows.first, i))
-    } else {
-        None
-    }
+    (i < rows.count).then(|| expression_row(words, rows.first, i))
 }
 
 // How many expressions a module has.
@@ -706,11 +688,7 @@ pub fn question_row(words: &[u32], q: u32) -> Question
 pub fn question_at(words: &[u32], q: u32) -> Option<Question>
     ensures { (file : List ℕ) → found_question_of result ≡ slice_get (index_of file words.now).questions q }
 {
-    if q < word_at(words, QUESTION_COUNT) {
-        Some(question_row(words, q))
-    } else {
-        None
-    }
+    (q < word_at(words, QUESTION_COUNT)).then(|| question_row(words, q))
 }
 
 // How many questions the file has.
@@ -769,24 +747,14 @@ pub fn item_name(words: &[u32], first: u32, i: u32) -> Name
 pub fn number_item(words: &[u32], items: Items, i: u32) -> Option<u32>
     ensures { result ≡ slice_get (numbers_of words.now items) i }
 {
-    let first = items.first;
-    if i < items.count {
-        Some(item_value(words, first, i))
-    } else {
-        None
-    }
+    (i < items.count).then(|| item_value(words, items.first, i))
 }
 
 // An argument or an element, which may itself be absent.
 pub fn link_item(words: &[u32], items: Items, i: u32) -> Option<Option<ExpressionId>>
     ensures { link_item_of result ≡ slice_get (links_of words.now items) i }
 {
-    let first = items.first;
-    if i < items.count {
-        Some(item_link(words, first, i))
-    } else {
-        None
-    }
+    (i < items.count).then(|| item_link(words, items.first, i))
 }
 
 // A field of a struct, or a parameter of a function.
@@ -794,12 +762,10 @@ pub fn name_with_type_item(words: &[u32], items: Items, i: u32) -> Option<(Name,
     ensures { (file : List ℕ) → name_with_type_item_of file result
         ≡ slice_get (names_with_types_of file words.now items) i }
 {
-    let first = items.first;
-    if i < items.count {
-        let t = item_value(words, first, i);
-        let name = item_name(words, first, i);
-        Some((name, t))
-    } else {
-        None
-    }
+    (i < items.count).then(|| {
+        (
+            item_name(words, items.first, i),
+            item_value(words, items.first, i),
+        )
+    })
 }
