@@ -7,8 +7,10 @@ ghost use Rattle.io.specs.Counts.{IsPrefixLen};
 ghost use Rattle.check_index.specs.Line.{counted, counts, row_total, accepted_line, refused_line, line_of, loading_line};
 ghost use Rattle.format.specs.Load.{load};
 ghost use Rattle.records.specs.Layout.{word as word_of};
+ghost use Rattle.records.specs.Meaning.{row_kind_number};
 ghost use Rattle.refusals.specs.Numbers.{file_refusal_number};
 
+use records::RowKind;
 use refusals::FileRefused;
 use std::io::{Print, Read};
 
@@ -87,10 +89,10 @@ fn put_records(words: &[u32], out: &mut [u8], at: usize) -> usize
         ≡ counted (take at out.old) (counts words.now) }
 {
     let modules = word(words, records::MODULE_COUNT);
-    let scopes = row_total(words, records::SCOPE_ROWS);
-    let types = row_total(words, records::TYPE_EXPR_ROWS);
-    let definitions = row_total(words, records::DEFINITION_ROWS);
-    let expressions = row_total(words, records::EXPRESSION_ROWS);
+    let scopes = row_total(words, RowKind::Scope);
+    let types = row_total(words, RowKind::TypeExpr);
+    let definitions = row_total(words, RowKind::Definition);
+    let expressions = row_total(words, RowKind::Expression);
     let questions = word(words, records::QUESTION_COUNT);
     let items = word(words, ITEM_COUNT);
     put_numbers(
@@ -115,8 +117,8 @@ fn word(words: &[u32], i: usize) -> u64
 }
 
 // How many records of a kind the modules have.
-fn row_total(words: &[u32], kind: u32) -> u64
-    ensures { result ≡ row_total words.now kind }
+fn row_total(words: &[u32], kind: RowKind) -> u64
+    ensures { result ≡ row_total words.now (row_kind_number kind) }
 {
     let count = records::word_at(words, records::MODULE_COUNT);
     let mut sum: u64 = 0;

@@ -1,15 +1,15 @@
 -- Laws of `all_below` and of tests one after the other. Assumes nothing.
 use mathlib.Core.Path.{◌≡◌, refl, sym, ap, ◌∙◌}
-use mathlib.Core.Bool.{Bool, true, false, ◌&&◌}
-use Prim.Native.Nat.{ℕ, zero, suc, ◌+◌, ◌-◌, ◌≤◌, ◌<◌}
-use mathlib.Core.List.{List, [], ◌∷◌, ◌++◌}
-use Rattle.std.specs.Prelude.{Option}
+use mathlib.Core.Bool.{Bool, true, false, not, ◌&&◌}
+use Prim.Native.Nat.{ℕ, zero, suc, ◌+◌}
+use mathlib.Core.List.{List, [], ◌∷◌, ◌++◌, map}
+use Rattle.std.specs.Prelude.{Option, None, Some, is_some, if◌then◌else◌}
 use lib.Dec.{ltb}
-use Rattle.model.specs.Common.{every}
+use Rattle.model.specs.Common.{every, first, next}
 use Rattle.model.specs.Links.{link, links, field_types}
 use Rattle.format.specs.LinkCheck.{all_below}
 use Rattle.records.specs.Layout.{each, item_value, numbers_at, links_at, names_with_types_at, link_by}
-use Rattle.records.proofs.Lists.{each_unroll, each_ended, each_begun}
+use Rattle.links.proofs.Lines.{items_tests}
 
 -- ------------------------------------------------------------------ two tests, the second made where the first passes
 
@@ -40,10 +40,7 @@ module _ (n : ℕ) where
       by true = refl
       by false = refl
 
-  -- a number or a link that equals the one that was tested
-  pub below_same : (x k : ℕ) → x ≡ k → ltb x n ≡ ltb k n
-  below_same x k e = ap (λ k. ltb k n) e
-
+  -- a link that equals the one that was tested
   pub link_same : (b : Bool) (p o : Option ℕ) → b ≡ all_below n (link p) → p ≡ o → b ≡ all_below n (link o)
   link_same b p o is e = is ∙ ap (λ o. all_below n (link o)) e
 
@@ -71,29 +68,29 @@ bound_same ks n k e = ap (λ n. all_below n ks) e
 
 -- ------------------------------------------------------------------ every element of a list
 
--- the rows from i on
-unfoldable pub every_from : {A : Type 0} → (A → Bool) → (ℕ → A) → ℕ → ℕ → ℕ → Bool
-every_from test row from count i = every test (each row (from + i) (count - i))
+-- every element passes where none is the first that fails
+none_fails : {A : Type 0} (test : A → Bool) (xs : List A) → not (is_some (first not (map test xs))) ≡ every test xs
+unfolding first
+none_fails test [] = refl
+none_fails test (x ∷ xs) = by (test x) (first not (map test xs)) (none_fails test xs)
+  where
+    by : (b : Bool) (o : Option ℕ) → not (is_some o) ≡ every test xs → not (is_some (if not b then Some zero else next o)) ≡ (b && every test xs)
+    by true None e = e
+    by true (Some k) e = e
+    by false o e = refl
 
+-- the code's first fault is `r`, and whether it is none is `b`
 module _ {A : Type 0} (test : A → Bool) (row : ℕ → A) (from count : ℕ) where
-  pub every_begin : every test (each row from count) ≡ every_from test row from count 0
-  unfolding every_from
-  every_begin = ap (every test) (each_begun row from count)
-
-  every_turn : (i : ℕ) → i < count → every_from test row from count i ≡ (test (row (from + i)) && every_from test row from count (i + 1))
-  unfolding every_from
-  every_turn i h = ap (every test) (each_unroll row from count i h)
-
-  pub every_stop : (i : ℕ) (b : Bool) → i < count → b ≡ test (row (from + i)) → b ≡ false → every_from test row from count i ≡ false
-  every_stop i b h is e = every_turn i h ∙ sym (and_stop b (test (row (from + i))) (every_from test row from count (i + 1)) is e)
-
-  pub every_go : (i : ℕ) (b : Bool) → i < count → b ≡ test (row (from + i)) → b ≡ true
-      → every_from test row from count i ≡ every_from test row from count (i + 1)
-  every_go i b h is e = every_turn i h ∙ sym (and_go b (test (row (from + i))) (every_from test row from count (i + 1)) is _ e refl)
-
-  pub every_end : (i : ℕ) → count ≤ i → every_from test row from count i ≡ true
-  unfolding every_from
-  every_end i h = ap (every test) (each_ended row from count i h)
+  all_pass : (r : Option ℕ) (b : Bool) → r ≡ first not (each (λ k. test (row (from + k))) 0 count) → is_some r ≡ not b
+      → b ≡ every test (each row from count)
+  all_pass r b is e =
+      by b _ e
+      ∙ ap (λ r. not (is_some r)) (is ∙ ap (first not) (items_tests row from count test))
+      ∙ none_fails test (each row from count)
+    where
+      by : (b x : Bool) → x ≡ not b → b ≡ not x
+      by true x h = ap not (sym h)
+      by false x h = ap not (sym h)
 
 -- ------------------------------------------------------------------ the lists of a row
 
@@ -108,18 +105,20 @@ module _ (n : ℕ) where
   links_every [] = refl
   links_every (o ∷ os) = sym (below_append n (link o) (links os)) ∙ ap (λ r. all_below n (link o) && r) (links_every os)
 
-  pub numbers_begin : (words : List ℕ) (from count : ℕ)
-      → all_below n (numbers_at words from count) ≡ every_from (λ k. ltb k n) (item_value words) from count 0
-  unfolding numbers_at
-  numbers_begin words from count =
-      numbers_every (each (item_value words) from count) ∙ every_begin (λ k. ltb k n) (item_value words) from count
+  module _ (words : List ℕ) (from count : ℕ) (r : Option ℕ) (b : Bool) where
+    pub numbers_pass : r ≡ first not (each (λ i. ltb (item_value words (from + i)) n) 0 count) → is_some r ≡ not b
+        → b ≡ all_below n (numbers_at words from count)
+    unfolding numbers_at
+    numbers_pass is e =
+        all_pass (λ k. ltb k n) (item_value words) from count r b is e
+        ∙ sym (numbers_every (each (item_value words) from count))
 
-  pub links_begin : (words : List ℕ) (from count : ℕ)
-      → all_below n (links (links_at words from count)) ≡ every_from (λ o. all_below n (link o)) (λ i. link_by (item_value words i)) from count 0
-  unfolding links_at
-  links_begin words from count =
-      links_every (each (λ i. link_by (item_value words i)) from count)
-      ∙ every_begin (λ o. all_below n (link o)) (λ i. link_by (item_value words i)) from count
+    pub links_pass : r ≡ first not (each (λ i. all_below n (link (link_by (item_value words (from + i))))) 0 count) → is_some r ≡ not b
+        → b ≡ all_below n (links (links_at words from count))
+    unfolding links_at
+    links_pass is e =
+        all_pass (λ o. all_below n (link o)) (λ i. link_by (item_value words i)) from count r b is e
+        ∙ sym (links_every (each (λ i. link_by (item_value words i)) from count))
 
 -- the T of names with types are the values of the same items
 pub field_types_at : (file words : List ℕ) (from count : ℕ) → numbers_at words from count ≡ field_types (names_with_types_at file words from count)

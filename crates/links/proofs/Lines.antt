@@ -2,7 +2,7 @@
 use mathlib.Core.Path.{◌≡◌, refl, sym, ap, ap₂, ◌∙◌}
 use mathlib.Core.Bool.{Bool, true, false, not}
 use Prim.Native.Nat.{ℕ, zero, suc, ◌+◌, ◌-◌, ◌≤◌, ◌<◌}
-use native.Mathlib.Nat.{add-zero, zero-add}
+use native.Mathlib.Nat.{add-zero, zero-add, sub-zero}
 use native.Mathlib.Numerals.{add-one}
 use native.Mathlib.Omega.{arith}
 use mathlib.Core.List.{List, [], ◌∷◌, ◌++◌, map}
@@ -16,7 +16,6 @@ use Rattle.model.proofs.Places.{getElem_below}
 use Rattle.model.proofs.Search.{passes_some, first_passes}
 use Rattle.format.specs.LinkCheck.{map_from}
 use Rattle.records.specs.Layout.{each, begin_of, count_of, rows_of}
-use Rattle.records.proofs.Lists.{each_unroll, each_ended, each_begun, each_length}
 
 -- ------------------------------------------------------------------ tests from a place on
 
@@ -117,10 +116,10 @@ module _ (n : ℕ) (bs : List Bool) (o : Option ℕ) (is : o ≡ first not bs) w
 pub first_below : (bs : List Bool) (k : ℕ) → first not bs ≡ Some k → k < length bs
 first_below bs k e = let (b, found, fails) = passes_some (slice_get bs k) not (first_passes not bs k e) in getElem_below bs k found
 
--- ------------------------------------------------------------------ row after row
+-- ------------------------------------------------------------------ number after number
 
 -- a test that does not look at the row's number
-pub map_numbered : {A : Type 0} (test : A → Bool) (n : ℕ) (xs : List A) → map test xs ≡ map_from (λ k. test) n xs
+map_numbered : {A : Type 0} (test : A → Bool) (n : ℕ) (xs : List A) → map test xs ≡ map_from (λ k. test) n xs
 unfolding map_from
 map_numbered test n [] = refl
 map_numbered test n (x ∷ xs) = ap (λ bs. test x ∷ bs) (map_numbered test (suc n) xs)
@@ -130,51 +129,72 @@ unfolding map_from
 map_from_length test n [] = refl
 map_from_length test n (x ∷ xs) = ap suc (map_from_length test (suc n) xs)
 
--- the number of the first row from i on that fails its test
-unfoldable pub row_fault : {A : Type 0} → (ℕ → A → Bool) → (ℕ → A) → ℕ → ℕ → ℕ → Option ℕ
-row_fault test row from count i = fault_in i (map_from test i (each row (from + i) (count - i)))
+-- the first number from i on that fails its test
+unfoldable pub fault_from : (ℕ → Bool) → ℕ → ℕ → Option ℕ
+fault_from test count i = fault_in i (each test i (count - i))
 
-module _ {A : Type 0} (test : ℕ → A → Bool) (row : ℕ → A) (from count : ℕ) where
-  row_begin : first not (map_from test 0 (each row from count)) ≡ row_fault test row from count 0
-  unfolding row_fault
-  row_begin = ap (λ xs. first not (map_from test 0 xs)) (each_begun row from count) ∙ fault_begin (map_from test 0 (each row (from + 0) (count - 0)))
+module _ (test : ℕ → Bool) (count : ℕ) where
+  pub from_begin : first not (each test 0 count) ≡ fault_from test count 0
+  unfolding fault_from
+  from_begin = fault_begin (each test 0 count) ∙ ap (λ n. fault_in 0 (each test 0 n)) (sym (sub-zero count))
 
-  row_turn : (i : ℕ) → i < count
-      → row_fault test row from count i ≡ fault_in i (test i (row (from + i)) ∷ map_from test (i + 1) (each row (from + (i + 1)) (count - (i + 1))))
-  unfolding row_fault map_from
-  row_turn i h =
-      ap (λ xs. fault_in i (map_from test i xs)) (each_unroll row from count i h)
-      ∙ ap (λ k. fault_in i (test i (row (from + i)) ∷ map_from test k (each row (from + (i + 1)) (count - (i + 1))))) (sym (add-one i))
+  from_turn : (i : ℕ) → i < count → fault_from test count i ≡ fault_in i (test i ∷ each test (i + 1) (count - (i + 1)))
+  unfolding fault_from each
+  from_turn i h =
+      ap (λ n. fault_in i (each test i n)) (one_less count i h)
+      ∙ ap (λ k. fault_in i (test i ∷ each test k (count - (i + 1)))) (sym (add-one i))
+    where
+      one_less : (n i : ℕ) → i < n → n - i ≡ suc (n - (i + 1))
+      one_less n i h = omega arith
 
-  -- the code's test of the row is `b`
-  module _ (i : ℕ) (b : Bool) (below : i < count) (is : b ≡ test i (row (from + i))) where
-    pub row_hit : not b ≡ true → row_fault test row from count i ≡ Some i
-    row_hit e = row_turn i below ∙ fault_here i _ _ (sym is ∙ not-true b e)
+  -- the code's test of the number is `b`
+  module _ (i : ℕ) (b : Bool) (below : i < count) (is : b ≡ test i) where
+    pub from_hit : not b ≡ true → fault_from test count i ≡ Some i
+    from_hit e = from_turn i below ∙ fault_here i _ _ (sym is ∙ not-true b e)
 
-    pub row_miss : not b ≡ false → row_fault test row from count i ≡ row_fault test row from count (i + 1)
-    unfolding row_fault
-    row_miss e = row_turn i below ∙ fault_later i _ _ (sym is ∙ not-false b e)
+    pub from_miss : not b ≡ false → fault_from test count i ≡ fault_from test count (i + 1)
+    unfolding fault_from
+    from_miss e = from_turn i below ∙ fault_later i _ _ (sym is ∙ not-false b e)
 
-  pub row_end : (i : ℕ) → count ≤ i → row_fault test row from count i ≡ None
-  unfolding row_fault map_from
-  row_end i h = ap (λ xs. fault_in i (map_from test i xs)) (each_ended row from count i h) ∙ fault_none i
+  pub from_end : (i : ℕ) → count ≤ i → fault_from test count i ≡ None
+  unfolding fault_from each
+  from_end i h = ap (λ n. fault_in i (each test i n)) (ended count i h) ∙ fault_none i
+    where
+      ended : (n i : ℕ) → n ≤ i → n - i ≡ 0
+      ended n i h = omega arith
 
--- where the loops begin: over a module's rows of a kind, with the rows' numbers or without, and over the file's questions
-module _ {A : Type 0} (row : ℕ → A) (words : List ℕ) (m kind from count : ℕ) (begins : from ≡ begin_of words m kind) (counts : count ≡ count_of words m kind) where
-  pub numbered_begin : (test : ℕ → A → Bool) → first not (map_from test 0 (rows_of row words m kind)) ≡ row_fault test row from count 0
-  unfolding rows_of
-  numbered_begin test = ap₂ (λ a n. first not (map_from test 0 (each row a n))) (sym begins) (sym counts) ∙ row_begin test row from count
+-- ------------------------------------------------------------------ the tests of rows by their numbers
 
-  pub rows_begin : (test : A → Bool) → first not (map test (rows_of row words m kind)) ≡ row_fault (λ k. test) row from count 0
-  rows_begin test = ap (first not) (map_numbered test 0 (rows_of row words m kind)) ∙ numbered_begin (λ k. test)
+-- what a test of each row gives, with the rows' numbers
+each_numbered : {A : Type 0} (test : ℕ → A → Bool) (row : ℕ → A) (from n count : ℕ)
+    → each (λ k. test k (row (from + k))) n count ≡ map_from test n (each row (from + n) count)
+unfolding each map_from
+each_numbered test row from n zero = refl
+each_numbered test row from n (suc count) =
+    ap (λ bs. test n (row (from + n)) ∷ bs)
+    (each_numbered test row from (suc n) count ∙ ap (λ a. map_from test (suc n) (each row a count)) (over from n))
+  where
+    over : (a b : ℕ) → a + suc b ≡ suc (a + b)
+    over a b = omega arith
 
-pub questions_begin : {A : Type 0} (test : A → Bool) (row : ℕ → A) (all count : ℕ) → count ≡ length (each row 0 all)
-    → first not (map test (each row 0 all)) ≡ row_fault (λ k. test) row 0 count 0
-questions_begin test row all count long =
-    ap (first not) (map_numbered test 0 (each row 0 all))
-    ∙ ap (λ n. first not (map_from (λ k. test) 0 (each row 0 n))) (sym (long ∙ each_length row 0 all))
-    ∙ row_begin (λ k. test) row 0 count
+-- over a list that begins at row `from`, and over a module's rows of a kind, with the rows' numbers or without
+module _ {A : Type 0} (row : ℕ → A) (from count : ℕ) where
+  rows_numbered : (test : ℕ → A → Bool) → each (λ k. test k (row (from + k))) 0 count ≡ map_from test 0 (each row from count)
+  rows_numbered test = each_numbered test row from 0 count ∙ ap (λ a. map_from test 0 (each row a count)) (add-zero from)
 
--- a row's number counted from 0
-pub from_0 : {A : Type 0} (test : A → Bool) (row : ℕ → A) (i : ℕ) (b : Bool) → b ≡ test (row i) → b ≡ test (row (0 + i))
-from_0 test row i b e = e ∙ ap (λ i. test (row i)) (sym (zero-add i))
+  pub items_tests : (test : A → Bool) → each (λ k. test (row (from + k))) 0 count ≡ map test (each row from count)
+  items_tests test = rows_numbered (λ k. test) ∙ sym (map_numbered test 0 (each row from count))
+
+  module _ (words : List ℕ) (m kind : ℕ) (begins : from ≡ begin_of words m kind) (counts : count ≡ count_of words m kind) where
+    pub numbered_tests : (test : ℕ → A → Bool) → each (λ k. test k (row (from + k))) 0 count ≡ map_from test 0 (rows_of row words m kind)
+    unfolding rows_of
+    numbered_tests test = rows_numbered test ∙ ap₂ (λ a n. map_from test 0 (each row a n)) begins counts
+
+    pub rows_tests : (test : A → Bool) → each (λ k. test (row (from + k))) 0 count ≡ map test (rows_of row words m kind)
+    rows_tests test = numbered_tests (λ k. test) ∙ sym (map_numbered test 0 (rows_of row words m kind))
+
+-- over a list whose rows have their numbers in the file
+pub list_tests : {A : Type 0} (test : A → Bool) (row : ℕ → A) (from count : ℕ) → each (λ k. test (row k)) from count ≡ map test (each row from count)
+unfolding each
+list_tests test row from zero = refl
+list_tests test row from (suc count) = ap (λ bs. test (row from) ∷ bs) (list_tests test row (suc from) count)

@@ -12,12 +12,27 @@ ghost use Rattle.records.specs.Layout.{scope_row, type_expr_row, definition_row,
 ghost use Rattle.records.specs.Layout.{module_row, index_of};
 ghost use Rattle.records.specs.Meaning.{numbers_of, links_of, type_link_of, definition_link_of, expression_link_of};
 ghost use Rattle.records.specs.Meaning.{definition_kind_of, origin_of, expression_of};
-ghost use Rattle.links.specs.Promises.{LineCount};
+ghost use Rattle.links.specs.Promises.{FirstFault, LineCount};
 
 use records::{
     DefinitionKind, Expression, ExpressionId, FileScopeId, Items, Origin, Question, RecordNumber,
-    TypeExpr,
+    RowKind, TypeExpr,
 };
+
+// ------------------------------------------------------------------ the first that fails a test
+
+// The first number below `count` that fails the test.
+fn first_fault<F: Fn(u32) -> bool>(count: u32, test: F) -> Option<u32>
+    requires { F.IsAlwaysCallable test }
+    ensures { FirstFault (F.post test) count result }
+{
+    for i in 0..count {
+        if !test(i) {
+            return Some(i);
+        }
+    }
+    None
+}
 
 // ------------------------------------------------------------------ links below a number of records
 
@@ -26,14 +41,7 @@ fn numbers_below(words: &[u32], items: Items, n: u32) -> bool
     ensures { result ≡ all_below n (numbers_of words.now items) }
 {
     let begin = items.first;
-    let count = items.count;
-    for i in 0..count {
-        let k = records::item_value(words, begin, i);
-        if n <= k {
-            return false;
-        }
-    }
-    true
+    first_fault(items.count, |i| records::item_value(words, begin, i) < n).is_none()
 }
 
 // A link that is there is below `n`.
@@ -61,14 +69,11 @@ fn links_below(words: &[u32], items: Items, n: u32) -> bool
     ensures { result ≡ all_below n (links (links_of words.now items)) }
 {
     let begin = items.first;
-    let count = items.count;
-    for i in 0..count {
-        let to = records::item_link(words, begin, i);
-        if !link_below(to, n) {
-            return false;
-        }
-    }
-    true
+    first_fault(
+        items.count,
+        |i| link_below(records::item_link(words, begin, i), n),
+    )
+    .is_none()
 }
 
 // ------------------------------------------------------------------ scopes and type expressions
@@ -323,15 +328,9 @@ fn scope_fault(words: &[u32], m: u32) -> Option<u32>
     ensures { (file : List ℕ) → result
         ≡ first not (map_from scope_linked 0 (module_row file words.now m).scopes) }
 {
-    let rows = records::rows_of(words, m, records::SCOPE_ROWS);
+    let rows = records::rows_of(words, m, RowKind::Scope);
     let begin = rows.first;
-    let count = rows.count;
-    for s in 0..count {
-        if !scope_linked(words, begin, s) {
-            return Some(s);
-        }
-    }
-    None
+    first_fault(rows.count, |s| scope_linked(words, begin, s))
 }
 
 // The module's first T that names one which is not earlier.
@@ -339,15 +338,9 @@ fn type_fault(words: &[u32], m: u32) -> Option<u32>
     ensures { (file : List ℕ) → result
         ≡ first not (map_from type_linked 0 (module_row file words.now m).types) }
 {
-    let rows = records::rows_of(words, m, records::TYPE_EXPR_ROWS);
+    let rows = records::rows_of(words, m, RowKind::TypeExpr);
     let begin = rows.first;
-    let count = rows.count;
-    for t in 0..count {
-        if !type_linked(words, begin, t) {
-            return Some(t);
-        }
-    }
-    None
+    first_fault(rows.count, |t| type_linked(words, begin, t))
 }
 
 // The module's first D with a link to no record of the module.
@@ -356,15 +349,9 @@ fn definition_fault(words: &[u32], m: u32) -> Option<u32>
         ≡ first not (map (definition_linked (module_row file words.now m))
         (module_row file words.now m).definitions) }
 {
-    let rows = records::rows_of(words, m, records::DEFINITION_ROWS);
+    let rows = records::rows_of(words, m, RowKind::Definition);
     let begin = rows.first;
-    let count = rows.count;
-    for d in 0..count {
-        if !definition_linked(words, m, begin, d) {
-            return Some(d);
-        }
-    }
-    None
+    first_fault(rows.count, |d| definition_linked(words, m, begin, d))
 }
 
 // The module's first E with a link to no record of the module.
@@ -373,15 +360,9 @@ fn expression_fault(words: &[u32], m: u32) -> Option<u32>
         ≡ first not (map (expression_linked (module_row file words.now m))
         (module_row file words.now m).expressions) }
 {
-    let rows = records::rows_of(words, m, records::EXPRESSION_ROWS);
+    let rows = records::rows_of(words, m, RowKind::Expression);
     let begin = rows.first;
-    let count = rows.count;
-    for e in 0..count {
-        if !expression_linked(words, m, begin, e) {
-            return Some(e);
-        }
-    }
-    None
+    first_fault(rows.count, |e| expression_linked(words, m, begin, e))
 }
 
 // The number of the first question whose links don't lead.
@@ -391,12 +372,8 @@ pub fn question_fault(words: &[u32]) -> Option<usize>
         (index_of file words.now).questions) }
 {
     let count = records::question_count(words);
-    for q in 0..count {
-        if !question_linked(words, q) {
-            return Some(q as usize);
-        }
-    }
-    None
+    let fault = first_fault(count, |q| question_linked(words, q))?;
+    Some(fault as usize)
 }
 
 // ------------------------------------------------------------------ the lines of a module

@@ -1,10 +1,10 @@
 -- Laws of the lists that the words hold: `each f first count`. Assumes nothing.
-use mathlib.Core.Path.{◌≡◌, refl, sym, ap, ap₂, subst, ◌∙◌}
+use mathlib.Core.Path.{◌≡◌, refl, sym, ap, ap₂, ◌∙◌}
 use Prim.Native.Nat.{ℕ, zero, suc, ◌+◌, ◌-◌, ◌≤◌, ◌<◌}
 use native.Mathlib.Nat.{not-suc-le-zero, le_of_suc-le-suc, add-zero, zero-add, sub-zero}
 use native.Mathlib.Omega.{arith}
 use mathlib.Core.List.{List, [], ◌∷◌, ◌++◌}
-use Rattle.std.specs.Prelude.{None, Some}
+use Rattle.std.specs.Prelude.{Option, None, Some, is_some, IfSome, option_map}
 use mathlib.Core.Bool.{Bool, true, false}
 use lib.Dec.{ltb}
 use borrow.Author.Tests.{ltb-true, ltb-false}
@@ -34,30 +34,30 @@ module _ {A : Type 0} (f : ℕ → A) where
   each_length first zero = refl
   each_length first (suc count) = ap suc (each_length (suc first) count)
 
-  -- an item of a list by place
-  pub each_found : (first count i : ℕ) (x : A) → i < count → x ≡ f (first + i) → Some x ≡ slice_get (each f first count) i
-  each_found first count i x below e = ap Some e ∙ sym (each_at first count i below)
-
-  pub each_absent : (first count i : ℕ) → count ≤ i → None ≡ slice_get (each f first count) i
-  each_absent first count i past = sym (each_past first count i past)
-
   -- a list that begins at 0
   pub each_if : (count i : ℕ) (b : Bool) → ltb i count ≡ b → slice_get (each f 0 count) i ≡ (if b then Some (f i) else None)
   each_if count i true h = each_at 0 count i (ltb-true i count h) ∙ ap (λ k. Some (f k)) (zero-add i)
   each_if count i false h = each_past 0 count i (ltb-false i count h)
 
--- a module's record by number, from where its rows begin and how many there are
-module _ {A : Type 0} (row : ℕ → A) (words : List ℕ) (m kind first count i : ℕ) (begins : first ≡ begin_of words m kind) (counts : count ≡ count_of words m kind) where
-  pub row_found : (x : A) → i < count → x ≡ row (first + i) → Some x ≡ slice_get (rows_of row words m kind) i
-  unfolding rows_of
-  row_found x below e =
-      ap Some (e ∙ ap (λ a. row (a + i)) begins)
-      ∙ sym (each_at row (begin_of words m kind) (count_of words m kind) i (subst (λ n. i < n) counts below))
+-- what `then` gives of an item below the count: each of its values is one that `P` holds of, and means the item
+module _ {A B : Type 0} (mean : A → B) (row : ℕ → B) (first count i : ℕ) (P : A → Type 0) (answers : (x : A) → P x → mean x ≡ row (first + i)) where
+  pub then_item : (r : Option A) → is_some r ≡ ltb i count → IfSome r P → option_map mean r ≡ slice_get (each row first count) i
+  then_item None e p = sym (each_past row first count i (ltb-false i count (sym e)))
+  then_item (Some x) e p = ap Some (answers x p) ∙ sym (each_at row first count i (ltb-true i count (sym e)))
 
-  pub row_absent : count ≤ i → None ≡ slice_get (rows_of row words m kind) i
+  -- a module's record by number, from where its rows begin and how many there are
+  pub then_row : (words : List ℕ) (m kind : ℕ) → first ≡ begin_of words m kind → count ≡ count_of words m kind
+      → (r : Option A) → is_some r ≡ ltb i count → IfSome r P → option_map mean r ≡ slice_get (rows_of row words m kind) i
   unfolding rows_of
-  row_absent past = sym (each_past row (begin_of words m kind) (count_of words m kind) i (subst (λ n. n ≤ i) counts past))
+  then_row words m kind begins counts r e p = then_item r e p ∙ ap₂ (λ a n. slice_get (each row a n) i) begins counts
 
+-- a value that means itself
+pub as_it_is : {A : Type 0} (r : Option A) → r ≡ option_map (λ x. x) r
+as_it_is None = refl
+as_it_is (Some x) = refl
+
+-- how many rows of a kind a module has
+module _ {A : Type 0} (row : ℕ → A) (words : List ℕ) (m kind count : ℕ) (counts : count ≡ count_of words m kind) where
   pub row_count : count ≡ length (rows_of row words m kind)
   unfolding rows_of
   row_count = counts ∙ sym (each_length row (begin_of words m kind) (count_of words m kind))

@@ -1,7 +1,7 @@
 -- What the values of the code mean in the model: names are parts of the file, lists are ranges of the item rows. Definitions only.
 use Rattle.std.specs.Prelude.{ℕ, List, Option, option_map}
 use Rattle.model.specs.Records as model
-use Rattle.records.specs.Layout.{bytes_at, numbers_at, links_at, names_with_types_at}
+use Rattle.records.specs.Layout.{bytes_at, numbers_at, links_at, names_with_types_at, scope_rows, type_expr_rows, definition_rows, expression_rows}
 use Rattle.records.specs.declared.FileScopeId.{FileScopeId}
 use Rattle.records.specs.declared.DefinitionIndex.{DefinitionIndex}
 use Rattle.records.specs.declared.ExpressionId.{ExpressionId}
@@ -18,6 +18,13 @@ use Rattle.records.specs.declared.BinaryOp.{BinaryOp}
 use Rattle.records.specs.declared.Expression.{Expression}
 use Rattle.records.specs.declared.ExpressionInfo.{ExpressionInfo}
 use Rattle.records.specs.declared.Question.{Question}
+use Rattle.records.specs.declared.RowKind.{RowKind}
+
+abbrev pub row_kind_number : RowKind → ℕ
+row_kind_number RowKind.Scope = scope_rows
+row_kind_number RowKind.TypeExpr = type_expr_rows
+row_kind_number RowKind.Definition = definition_rows
+row_kind_number RowKind.Expression = expression_rows
 
 abbrev pub name_of : List ℕ → Name → model.Name
 name_of file n = bytes_at file n.start n.length
@@ -175,5 +182,8 @@ found_question_of = option_map question_of
 abbrev pub link_item_of : Option (Option ExpressionId) → Option (Option ℕ)
 link_item_of = option_map expression_link_of
 
+abbrev pub named_type_of : List ℕ → Name × ℕ → model.NameWithType
+named_type_of file item = record { name = name_of file item.0; type = item.1 }
+
 abbrev pub name_with_type_item_of : List ℕ → Option (Name × ℕ) → Option model.NameWithType
-name_with_type_item_of file = option_map (λ item. record { name = name_of file item.0; type = item.1 })
+name_with_type_item_of file = option_map (named_type_of file)

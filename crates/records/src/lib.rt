@@ -13,7 +13,7 @@ ghost use Rattle.records.specs.Meaning.{name_of, numbers_of, links_of, names_wit
 ghost use Rattle.records.specs.Meaning.{type_link_of, definition_link_of, expression_link_of, suffix_of};
 ghost use Rattle.records.specs.Meaning.{scope_kind_of, scope_of, type_expr_of, definition_kind_of, definition_of};
 ghost use Rattle.records.specs.Meaning.{origin_of, unary_op_of, binary_op_of, expression_of, info_of};
-ghost use Rattle.records.specs.Meaning.{question_of};
+ghost use Rattle.records.specs.Meaning.{question_of, row_kind_number};
 ghost use Rattle.records.specs.Meaning.{found_scope_of, found_type_expr_of, found_definition_of};
 ghost use Rattle.records.specs.Meaning.{found_expression_of, found_question_of, link_item_of};
 ghost use Rattle.records.specs.Meaning.{name_with_type_item_of};
@@ -235,6 +235,15 @@ pub enum Question {
     At(u32, u32),
 }
 
+// A kind of record that a module has, by the word of the module's row that says where its rows begin.
+#[derive(Clone, Copy, PartialEq, Eq)]
+pub enum RowKind {
+    Scope = 1,
+    TypeExpr = 2,
+    Definition = 3,
+    Expression = 4,
+}
+
 // A module's rows of one kind: where they begin, and how many there are.
 #[derive(Clone, Copy)]
 pub struct Rows {
@@ -261,15 +270,6 @@ pub const ITEMS: usize = 12288;
 pub const MODULE_COUNT: usize = 0;
 
 pub const QUESTION_COUNT: usize = 1;
-
-// The word of a module's row that says where its records of a kind begin.
-pub const SCOPE_ROWS: u32 = 1;
-
-pub const TYPE_EXPR_ROWS: u32 = 2;
-
-pub const DEFINITION_ROWS: u32 = 3;
-
-pub const EXPRESSION_ROWS: u32 = 4;
 
 // What a word of these kinds means, by its number. A number past a table's last means the last.
 const SCOPE_KINDS: [ScopeKind; 4] = [
@@ -344,19 +344,17 @@ pub fn suffix_of(v: u32) -> Option<Name>
 // ------------------------------------------------------------------ rows
 
 // The rows of a kind that a module has. They end where those of the next module begin.
-pub fn rows_of(words: &[u32], m: u32, kind: u32) -> Rows
-    ensures { RowsOf words.now m kind result }
+// A function for each kind counts them, and another reads one by its number: each promise speaks of another list of the module, so that one
+// function for all kinds would have to promise by cases. What they share is here, in `rows_of` and in `then`.
+pub fn rows_of(words: &[u32], m: u32, kind: RowKind) -> Rows
+    ensures { RowsOf words.now m (row_kind_number kind) result }
 {
     let at = MODULES + 8 * (m as usize);
     let first = word_at(words, at + (kind as usize));
     let end = word_at(words, at + 8 + (kind as usize));
-    if first < end {
-        Rows {
-            first,
-            count: end - first,
-        }
-    } else {
-        Rows { first, count: 0 }
+    Rows {
+        first,
+        count: end.saturating_sub(first),
     }
 }
 
@@ -387,20 +385,16 @@ pub fn scope_row(words: &[u32], first: u32, i: u32) -> Scope
 pub fn scope_at(words: &[u32], m: u32, s: FileScopeId) -> Option<Scope>
     ensures { (file : List ℕ) → found_scope_of result ≡ scope_at (module_row file words.now m) s.0 }
 {
-    let rows = rows_of(words, m, SCOPE_ROWS);
+    let rows = rows_of(words, m, RowKind::Scope);
     let i = s.0;
-    if i < rows.count {
-        Some(scope_row(words, rows.first, i))
-    } else {
-        None
-    }
+    (i < rows.count).then(|| scope_row(words, rows.first, i))
 }
 
 // How many scopes a module has.
 pub fn scope_count(words: &[u32], m: u32) -> u32
     ensures { (file : List ℕ) → result ≡ length (module_row file words.now m).scopes }
 {
-    let rows = rows_of(words, m, SCOPE_ROWS);
+    let rows = rows_of(words, m, RowKind::Scope);
     rows.count
 }
 
@@ -445,19 +439,15 @@ pub fn type_expr_at(words: &[u32], m: u32, t: u32) -> Option<TypeExpr>
     ensures { (file : List ℕ) → found_type_expr_of file words.now result
         ≡ type_expr_at (module_row file words.now m) t }
 {
-    let rows = rows_of(words, m, TYPE_EXPR_ROWS);
-    if t < rows.count {
-        Some(type_expr_row(words, rows.first, t))
-    } else {
-        None
-    }
+    let rows = rows_of(words, m, RowKind::TypeExpr);
+    (t < rows.count).then(|| type_expr_row(words, rows.first, t))
 }
 
 // How many type expressions a module has.
 pub fn type_expr_count(words: &[u32], m: u32) -> u32
     ensures { (file : List ℕ) → result ≡ length (module_row file words.now m).types }
 {
-    let rows = rows_of(words, m, TYPE_EXPR_ROWS);
+    let rows = rows_of(words, m, RowKind::TypeExpr);
     rows.count
 }
 
@@ -532,20 +522,16 @@ pub fn definition_at(words: &[u32], m: u32, d: DefinitionIndex) -> Option<Defini
     ensures { (file : List ℕ) → found_definition_of file words.now result
         ≡ definition_at (module_row file words.now m) d.0 }
 {
-    let rows = rows_of(words, m, DEFINITION_ROWS);
+    let rows = rows_of(words, m, RowKind::Definition);
     let i = d.0;
-    if i < rows.count {
-        Some(definition_row(words, rows.first, i))
-    } else {
-        None
-    }
+    (i < rows.count).then(|| definition_row(words, rows.first, i))
 }
 
 // How many definitions a module has.
 pub fn definition_count(words: &[u32], m: u32) -> u32
     ensures { (file : List ℕ) → result ≡ length (module_row file words.now m).definitions }
 {
-    let rows = rows_of(words, m, DEFINITION_ROWS);
+    let rows = rows_of(words, m, RowKind::Definition);
     rows.count
 }
 
@@ -660,20 +646,16 @@ pub fn expression_at(words: &[u32], m: u32, e: ExpressionId) -> Option<Expressio
     ensures { (file : List ℕ) → found_expression_of file words.now result
         ≡ expression_at (module_row file words.now m) e.0 }
 {
-    let rows = rows_of(words, m, EXPRESSION_ROWS);
+    let rows = rows_of(words, m, RowKind::Expression);
     let i = e.0;
-    if i < rows.count {
-        Some(expression_row(words, rows.first, i))
-    } else {
-        None
-    }
+    (i < rows.count).then(|| expression_row(words, rows.first, i))
 }
 
 // How many expressions a module has.
 pub fn expression_count(words: &[u32], m: u32) -> u32
     ensures { (file : List ℕ) → result ≡ length (module_row file words.now m).expressions }
 {
-    let rows = rows_of(words, m, EXPRESSION_ROWS);
+    let rows = rows_of(words, m, RowKind::Expression);
     rows.count
 }
 
@@ -706,11 +688,7 @@ pub fn question_row(words: &[u32], q: u32) -> Question
 pub fn question_at(words: &[u32], q: u32) -> Option<Question>
     ensures { (file : List ℕ) → found_question_of result ≡ slice_get (index_of file words.now).questions q }
 {
-    if q < word_at(words, QUESTION_COUNT) {
-        Some(question_row(words, q))
-    } else {
-        None
-    }
+    (q < word_at(words, QUESTION_COUNT)).then(|| question_row(words, q))
 }
 
 // How many questions the file has.
@@ -769,24 +747,14 @@ pub fn item_name(words: &[u32], first: u32, i: u32) -> Name
 pub fn number_item(words: &[u32], items: Items, i: u32) -> Option<u32>
     ensures { result ≡ slice_get (numbers_of words.now items) i }
 {
-    let first = items.first;
-    if i < items.count {
-        Some(item_value(words, first, i))
-    } else {
-        None
-    }
+    (i < items.count).then(|| item_value(words, items.first, i))
 }
 
 // An argument or an element, which may itself be absent.
 pub fn link_item(words: &[u32], items: Items, i: u32) -> Option<Option<ExpressionId>>
     ensures { link_item_of result ≡ slice_get (links_of words.now items) i }
 {
-    let first = items.first;
-    if i < items.count {
-        Some(item_link(words, first, i))
-    } else {
-        None
-    }
+    (i < items.count).then(|| item_link(words, items.first, i))
 }
 
 // A field of a struct, or a parameter of a function.
@@ -794,12 +762,10 @@ pub fn name_with_type_item(words: &[u32], items: Items, i: u32) -> Option<(Name,
     ensures { (file : List ℕ) → name_with_type_item_of file result
         ≡ slice_get (names_with_types_of file words.now items) i }
 {
-    let first = items.first;
-    if i < items.count {
-        let t = item_value(words, first, i);
-        let name = item_name(words, first, i);
-        Some((name, t))
-    } else {
-        None
-    }
+    (i < items.count).then(|| {
+        (
+            item_name(words, items.first, i),
+            item_value(words, items.first, i),
+        )
+    })
 }

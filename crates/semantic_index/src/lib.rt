@@ -19,7 +19,7 @@ ghost use Rattle.records.specs.Meaning.{definition_of, definition_kind_of};
 ghost use Rattle.semantic_index.specs.Meaning.{best_of, FirstInChain, LastThat};
 
 use records::{
-    Definition, DefinitionIndex, DefinitionKind, ExpressionId, FileScopeId, Index, Name,
+    Definition, DefinitionIndex, DefinitionKind, ExpressionId, FileScopeId, Index, Name, RowKind,
 };
 
 // ------------------------------------------------------------------ scopes
@@ -44,7 +44,7 @@ fn is_root(words: &[u32], first: u32, s: u32) -> bool
 pub fn root_scope(words: &[u32], m: u32) -> Option<FileScopeId>
     ensures { (file : List ℕ) → scope_link_of result ≡ root_scope (module_row file words.now m) }
 {
-    let rows = records::rows_of(words, m, records::SCOPE_ROWS);
+    let rows = records::rows_of(words, m, RowKind::Scope);
     let first = rows.first;
     let count = rows.count;
     for s in 0..count {
@@ -114,7 +114,7 @@ pub fn latest_definition_index_by_name(
         ≡ latest_definition_index_by_name (module_row index.now.file.now index.now.words.now m) s.0
         (name_of index.now.file.now name) }
 {
-    let rows = records::rows_of(index.words, m, records::DEFINITION_ROWS);
+    let rows = records::rows_of(index.words, m, RowKind::Definition);
     let first = rows.first;
     last_that(rows.count, |d| is_named(index, first, d, s, name))
 }
@@ -273,7 +273,7 @@ fn latest_visible_by_name(
         ≡ latest_visible_by_name (module_row index.now.file.now index.now.words.now m) s.0
         (name_of index.now.file.now name) start end }
 {
-    let rows = records::rows_of(index.words, m, records::DEFINITION_ROWS);
+    let rows = records::rows_of(index.words, m, RowKind::Definition);
     let first = rows.first;
     last_that(
         rows.count,
@@ -354,7 +354,7 @@ pub fn expression_at_position(words: &[u32], m: u32, position: u32) -> Option<Ex
     ensures { (file : List ℕ) → expression_link_of result
         ≡ expression_at_position (module_row file words.now m) position }
 {
-    let rows = records::rows_of(words, m, records::EXPRESSION_ROWS);
+    let rows = records::rows_of(words, m, RowKind::Expression);
     let first = rows.first;
     let count = rows.count;
     let mut best = None;
@@ -387,7 +387,7 @@ pub fn first_function_around(words: &[u32], m: u32, s: FileScopeId) -> Option<De
     ensures { (file : List ℕ) → definition_link_of result
         ≡ first_function_around (module_row file words.now m) s.0 }
 {
-    let rows = records::rows_of(words, m, records::DEFINITION_ROWS);
+    let rows = records::rows_of(words, m, RowKind::Definition);
     let first = rows.first;
     let count = rows.count;
     let enough = (s.0 as usize) + 1;

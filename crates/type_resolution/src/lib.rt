@@ -33,7 +33,8 @@ use views::Asked;
 
 // ------------------------------------------------------------------ reads
 
-// A type expression of a module, none where there is no such module.
+// A record of a module, none where there is no such module. A function for each kind: each is one test and one read of `records`, which the check
+// proves by itself, and one function that took the read as a closure would be no plainer, with a promise and answers of its own.
 fn type_in(words: &[u32], m: u32, t: u32) -> Option<TypeExpr>
     ensures { TypeIn words.now m t result }
 {

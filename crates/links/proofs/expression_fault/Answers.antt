@@ -1,19 +1,15 @@
--- `links::expression_fault` meets its contract: the rows that are left decide the whole. Assumes nothing.
-use mathlib.Core.Path.{sym, ap, ◌∙◌}
+-- `links::expression_fault` meets its contract: what each row is asked is the definition's. Assumes nothing.
+use Prim.Native.Nat.{◌+◌}
+use mathlib.Core.Path.{ap, ◌∙◌}
 use mathlib.Core.Bool.{not}
-use Rattle.records.specs.Layout.{module_row}
-use Rattle.links.proofs.Lines.{rows_begin, row_hit, row_miss, row_end}
+use Rattle.std.proofs.Common.{rules}
+use Rattle.model.specs.Common.{first}
+use Rattle.format.specs.LinkCheck.{expression_linked}
+use Rattle.records.specs.Layout.{expression_row, module_row}
+use Rattle.links.proofs.Lines.{rows_tests}
 use Rattle.links.proofs.expression_fault.Goals as goal
 
-pub loop-e-init : goal.loop-e-init
-unfolding module_row
-loop-e-init c = λ file. rows_begin _ _ _ _ _ _ c.rows_of-rows.ensures.begins c.rows_of-rows.ensures.counts _
-
-pub returns-then-not-expression_linked : goal.returns-then-not-expression_linked
-returns-then-not-expression_linked c = λ file. sym (c.loop-e.invariant file ∙ row_hit _ _ _ _ _ _ c.loop-e-test.true (c.expression_linked.ensures file) (ap not c.if-not-expression_linked.true))
-
-pub loop-e-preserved : goal.loop-e-preserved
-loop-e-preserved c = λ file. c.loop-e.invariant file ∙ row_miss _ _ _ _ _ _ c.loop-e-test.true (c.expression_linked.ensures file) (ap not c.if-not-expression_linked.false)
-
 pub returns : goal.returns
-returns c = λ file. sym (c.loop-e.invariant file ∙ row_end _ _ _ _ _ c.loop-e-test.false)
+unfolding module_row
+returns c = λ file. c.first_fault.ensures.first (λ k. expression_linked (module_row file c.args.words.now c.args.m) (expression_row file c.args.words.now (c.rows_of-rows.result.first + k))) (λ i b below answers. search rules)
+    ∙ ap (first not) (rows_tests (expression_row file _) _ _ _ _ _ c.rows_of-rows.ensures.begins c.rows_of-rows.ensures.counts (expression_linked (module_row file c.args.words.now c.args.m)))

@@ -1,20 +1,34 @@
--- `links::question_fault` meets its contract: the questions that are left decide the whole. Assumes nothing.
-use mathlib.Core.Path.{sym, ap, ◌∙◌}
-use mathlib.Core.Bool.{not}
+-- `links::question_fault` meets its contract: what each question is asked is the definition's. Assumes nothing.
+use mathlib.Core.Path.{◌≡◌, ap, ◌∙◌}
+use mathlib.Core.Bool.{Bool, not}
+use lib.ListN.{length}
+use mathlib.Core.List.{List, map}
+use Prim.Native.Nat.{ℕ}
+use Rattle.std.proofs.Common.{rules}
+use Rattle.std.specs.Prelude.{Option}
+use Rattle.model.specs.Common.{first}
 use Rattle.format.specs.LinkCheck.{question_linked}
-use Rattle.records.specs.Layout.{question_row, index_of}
-use Rattle.links.proofs.Lines.{questions_begin, from_0, row_hit, row_miss, row_end}
+use Rattle.records.specs.Layout.{question_row, index_of, each}
+use Rattle.records.proofs.Lists.{each_length}
+use Rattle.links.proofs.Lines.{list_tests}
 use Rattle.links.proofs.question_fault.Goals as goal
 
-pub loop-q-init : goal.loop-q-init
-unfolding index_of
-loop-q-init c = λ file. questions_begin _ _ _ _ (c.question_count-count.ensures file)
+-- the test of a question by its number
+abbrev test : List ℕ → List ℕ → ℕ → Bool
+test file words k = question_linked (index_of file words) (question_row words k)
 
-pub returns-then-not-question_linked : goal.returns-then-not-question_linked
-returns-then-not-question_linked c = λ file. sym (c.loop-q.invariant file ∙ row_hit _ _ _ _ _ _ c.loop-q-test.true (from_0 (question_linked (index_of file _)) (question_row _) _ _ (c.question_linked.ensures file)) (ap not c.if-not-question_linked.true))
+-- the file's questions, tested by their numbers
+module _ (file words : List ℕ) (count : ℕ) (long : count ≡ length (index_of file words).questions) where
+  the_first : (r : Option ℕ) → r ≡ first not (each (test file words) 0 count)
+      → r ≡ first not (map (question_linked (index_of file words)) (index_of file words).questions)
+  unfolding index_of
+  the_first r e =
+      e
+      ∙ ap (first not) (list_tests (question_linked (index_of file words)) (question_row words) 0 count)
+      ∙ ap (λ n. first not (map (question_linked (index_of file words)) (each (question_row words) 0 n))) (long ∙ each_length (question_row words) 0 _)
 
-pub loop-q-preserved : goal.loop-q-preserved
-loop-q-preserved c = λ file. c.loop-q.invariant file ∙ row_miss _ _ _ _ _ _ c.loop-q-test.true (from_0 (question_linked (index_of file _)) (question_row _) _ _ (c.question_linked.ensures file)) (ap not c.if-not-question_linked.false)
+pub returns-in_err-fault : goal.returns-in_err-fault
+returns-in_err-fault c = λ file. the_first file _ _ (c.question_count-count.ensures file) _ (c.from_residual.ensures ∙ c.in_err-fault.ensures.first (test file c.args.words.now) (λ i b below answers. search rules))
 
 pub returns : goal.returns
-returns c = λ file. sym (c.loop-q.invariant file ∙ row_end _ _ _ _ _ c.loop-q-test.false)
+returns c = λ file. the_first file _ _ (c.question_count-count.ensures file) _ (c.in_ok-fault.ensures.first (test file c.args.words.now) (λ i b below answers. search rules))

@@ -1,19 +1,14 @@
--- `links::scope_fault` meets its contract: the rows that are left decide the whole. Assumes nothing.
-use mathlib.Core.Path.{sym, ap, ◌∙◌}
+-- `links::scope_fault` meets its contract: what each row is asked is the definition's. Assumes nothing.
+use mathlib.Core.Path.{ap, ◌∙◌}
 use mathlib.Core.Bool.{not}
-use Rattle.records.specs.Layout.{module_row}
-use Rattle.links.proofs.Lines.{numbered_begin, row_hit, row_miss, row_end}
+use Rattle.std.proofs.Common.{rules}
+use Rattle.model.specs.Common.{first}
+use Rattle.format.specs.LinkCheck.{scope_linked}
+use Rattle.records.specs.Layout.{scope_row, module_row}
+use Rattle.links.proofs.Lines.{numbered_tests}
 use Rattle.links.proofs.scope_fault.Goals as goal
 
-pub loop-s-init : goal.loop-s-init
-unfolding module_row
-loop-s-init c = λ file. numbered_begin _ _ _ _ _ _ c.rows_of-rows.ensures.begins c.rows_of-rows.ensures.counts _
-
-pub returns-then-not-scope_linked : goal.returns-then-not-scope_linked
-returns-then-not-scope_linked c = λ file. sym (c.loop-s.invariant file ∙ row_hit _ _ _ _ _ _ c.loop-s-test.true c.scope_linked.ensures (ap not c.if-not-scope_linked.true))
-
-pub loop-s-preserved : goal.loop-s-preserved
-loop-s-preserved c = λ file. c.loop-s.invariant file ∙ row_miss _ _ _ _ _ _ c.loop-s-test.true c.scope_linked.ensures (ap not c.if-not-scope_linked.false)
-
 pub returns : goal.returns
-returns c = λ file. sym (c.loop-s.invariant file ∙ row_end _ _ _ _ _ c.loop-s-test.false)
+unfolding module_row
+returns c = λ file. c.first_fault.ensures.first _ (λ i b below answers. search rules)
+    ∙ ap (first not) (numbered_tests (scope_row _) _ _ _ _ _ c.rows_of-rows.ensures.begins c.rows_of-rows.ensures.counts (scope_linked))

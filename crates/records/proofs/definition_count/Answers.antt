@@ -5,4 +5,4 @@ use Rattle.records.proofs.definition_count.Goals as goal
 
 pub returns : goal.returns
 unfolding module_row
-returns c = λ file. row_count (definition_row file _) _ _ definition_rows _ _ 0 c.rows_of-rows.ensures.begins c.rows_of-rows.ensures.counts
+returns c = λ file. row_count (definition_row file _) _ _ definition_rows _ c.rows_of-rows.ensures.counts

@@ -1,12 +1,20 @@
 -- `records::name_with_type_item` meets its contract: the place is below the count, or not. Assumes nothing.
-use Rattle.records.proofs.Lists.{each_found, each_absent}
-use Rattle.records.specs.Layout.{name_with_type_row, names_with_types_at}
+use Prim.Native.Nat.{ℕ}
+use mathlib.Core.List.{List}
+use mathlib.Core.Path.{◌≡◌}
+use Rattle.std.proofs.Common.{rules}
+use Rattle.records.proofs.Lists.{then_item}
+use Rattle.records.specs.Layout.{name_by, item_name, item_value, name_with_type_row, names_with_types_at}
+use Rattle.records.specs.Meaning.{name_of, named_type_of}
+use Rattle.records.specs.declared.Name.{Name}
 use Rattle.records.proofs.name_with_type_item.Goals as goal
 
-pub returns-then-i-items : goal.returns-then-i-items
-unfolding names_with_types_at
-returns-then-i-items c = λ file. each_found (name_with_type_row file c.args.words.now) c.args.items.first c.args.items.count c.args.i _ c.if-i-items.true (λ d. record { name = (c.item_name-name.ensures file) d; type = c.item_value-t.ensures d })
+-- a name and a T that are those of the row
+both_are : (file words : List ℕ) (i : ℕ) (item : Name × ℕ) → name_of file item.0 ≡ name_by file (item_name words i) → item.1 ≡ item_value words i
+    → named_type_of file item ≡ name_with_type_row file words i
+both_are file words i item named typed = λ d. record { name = named d; type = typed d }
 
-pub returns-else-i-items : goal.returns-else-i-items
+pub returns : goal.returns
 unfolding names_with_types_at
-returns-else-i-items c = λ file. each_absent (name_with_type_row file c.args.words.now) c.args.items.first c.args.items.count c.args.i c.if-i-items.false
+returns c = λ file. then_item (named_type_of file) (name_with_type_row file c.args.words.now) c.args.items.first _ _ _
+    (λ x answers. both_are file c.args.words.now _ x (search rules) (search rules)) _ c.then.ensures.variant c.then.ensures.some

@@ -5,4 +5,4 @@ use Rattle.records.proofs.scope_count.Goals as goal
 
 pub returns : goal.returns
 unfolding module_row
-returns c = λ file. row_count (scope_row _) _ _ scope_rows _ _ 0 c.rows_of-rows.ensures.begins c.rows_of-rows.ensures.counts
+returns c = λ file. row_count (scope_row _) _ _ scope_rows _ c.rows_of-rows.ensures.counts
