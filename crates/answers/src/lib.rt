@@ -220,7 +220,7 @@ fn are_long(records: usize, types: usize, places: usize, bytes: usize) -> bool
     true
 }
 
-// All type words and places that document 01 counts are zero.
+// Makes all type words and places that document 01 counts zero.
 fn clear_both(types: &mut [u32], demands: &mut [Place])
     ensures types { types.new ≡ cleared types.old }
     ensures demands { demands.new ≡ cleared_places demands.old }

@@ -50,7 +50,7 @@ place_demand place =
     (context_by (not (eqb (get_or place 3 0) 0)) (get_or place 4 0))
     (get_or place 4 0)
 
--- past the end, that of zeros
+-- past the end, the demand of a place of zeros
 unfoldable pub place_at : List (List ℕ) → ℕ → Demand
 place_at places i = place_demand (get_or places i [])
 

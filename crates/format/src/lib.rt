@@ -1,7 +1,8 @@
 // The words of the index file's format, which the definitions in specs/ and the loader share.
 #![tactic(auto)]
 
-// What a line is, by its first field.
+// What a line is, by its first field. (`Other`, here and in the enums below, is no word of the place. The definitions in specs/ share these enums and speak of
+// it as of a word, with a shape of its own, so it is no Option.)
 #[derive(Clone, Copy)]
 pub enum LineWord {
     M,

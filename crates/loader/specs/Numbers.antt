@@ -7,7 +7,7 @@ use Rattle.format.specs.declared.OriginWord.{OriginWord}
 use Rattle.format.specs.declared.NodeWord.{NodeWord}
 use Rattle.format.specs.declared.QuestionWord.{QuestionWord}
 
--- the number of a word of the table; none for a word with the number behind the last
+-- the number of a word of the table; none where the number is the one behind the last
 abbrev pub known : ℕ → ℕ → Option ℕ
 known other n = if eqb n other then None else Some n
 

@@ -71,7 +71,7 @@ fn put_item(words: &mut [u32], i: usize, value: u32, name: u32)
     }
 }
 
-// How many items there are, and where they end.
+// How many items there are, and where they end. Where an item ends is known only when it is read, so no `for` goes over the bytes.
 fn read_list(
     file: &[u8],
     listed: Listed,

@@ -35,7 +35,7 @@ fn finish(file: &[u8], words: &mut [u32], n: Counts, version: u32)
     );
 }
 
-// The lines from `from` on, the first of which is line 2.
+// The lines from `from` on, the first of which is line 2. Where a line ends is known only when it is read, so no `for` goes over the bytes.
 pub fn first_pass(
     file: &[u8],
     words: &mut [u32],

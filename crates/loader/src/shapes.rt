@@ -64,7 +64,7 @@ pub fn type_shape(word: TypeWord) -> Shape
     }
 }
 
-// The number of a word in a row, if it is one of the table's. Each kind of word has a function of its own: those of a trait would have the same
+// The number of a word in a row, if it is one of the table's. Each kind of word has a function of its own: a trait would only repeat the
 // bodies.
 pub fn type_number(word: TypeWord) -> Option<u32>
     ensures { result ≡ known 7 (type_number word) }

@@ -84,7 +84,8 @@ fn next_part(
     }
 }
 
-// Reads standard input until the space is full or the input ends, and says how many bytes stand at its start.
+// Reads standard input until the space is full or the input ends, and says how many bytes stand at its start. The space is fixed memory: std's reading to
+// the end would take a Vec. (`check_index` has the same three functions: a library for two programs would be as long.)
 fn read_input(rt: HostRuntime, space: &mut [u8]) -> io::Result<usize>
     ensures { IfOk result (λ n. n ≤ length space.new) }
 {

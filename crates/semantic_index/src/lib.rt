@@ -16,7 +16,7 @@ ghost use Rattle.model.specs.AtPosition.{turn};
 ghost use Rattle.records.specs.Layout.{scope_row, definition_row, expression_row, module_row, index_of};
 ghost use Rattle.records.specs.Meaning.{name_of, scope_link_of, definition_link_of, expression_link_of};
 ghost use Rattle.records.specs.Meaning.{definition_of, definition_kind_of};
-ghost use Rattle.semantic_index.specs.Meaning.{best_of, FirstInChain};
+ghost use Rattle.semantic_index.specs.Meaning.{best_of, FirstInChain, LastThat};
 
 use records::{
     Definition, DefinitionIndex, DefinitionKind, ExpressionId, FileScopeId, Index, Name,
@@ -90,6 +90,19 @@ fn is_named(index: &Index, first: u32, d: u32, s: FileScopeId, name: Name) -> bo
     )
 }
 
+// The last of so many definitions that passes the test.
+fn last_that<F: Fn(u32) -> bool>(count: u32, test: F) -> Option<DefinitionIndex>
+    requires { F.IsAlwaysCallable test }
+    ensures { LastThat (F.post test) count result }
+{
+    for d in (0..count).rev() {
+        if test(d) {
+            return Some(DefinitionIndex(d));
+        }
+    }
+    None
+}
+
 // The scope's last definition of the name.
 pub fn latest_definition_index_by_name(
     index: &Index,
@@ -103,13 +116,7 @@ pub fn latest_definition_index_by_name(
 {
     let rows = records::rows_of(index.words, m, records::DEFINITION_ROWS);
     let first = rows.first;
-    let count = rows.count;
-    for d in (0..count).rev() {
-        if is_named(index, first, d, s, name) {
-            return Some(DefinitionIndex(d));
-        }
-    }
-    None
+    last_that(rows.count, |d| is_named(index, first, d, s, name))
 }
 
 // What `find` finds in the first scope of the chain in which it finds something, going up the parents. A parent has a lower number, so s + 1 scopes are
@@ -268,13 +275,10 @@ fn latest_visible_by_name(
 {
     let rows = records::rows_of(index.words, m, records::DEFINITION_ROWS);
     let first = rows.first;
-    let count = rows.count;
-    for d in (0..count).rev() {
-        if is_named_and_visible(index, m, first, d, s, name, start, end) {
-            return Some(DefinitionIndex(d));
-        }
-    }
-    None
+    last_that(
+        rows.count,
+        |d| is_named_and_visible(index, m, first, d, s, name, start, end),
+    )
 }
 
 // In the first scope of the chain that has one.

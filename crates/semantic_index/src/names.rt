@@ -13,7 +13,8 @@ pub fn byte_at(bytes: &[u8], i: usize) -> u8
     if i < bytes.len() { bytes[i] } else { 0 }
 }
 
-// Whether `count` bytes from `i` in one slice are those from `j` in another.
+// Whether `count` bytes from `i` in one slice are those from `j` in another. A name may lie past its file's end, where bytes count as 0: there is no slice
+// to compare.
 fn same_bytes(a: &[u8], i: u32, b: &[u8], j: u32, count: u32) -> bool
     ensures { result ≡ eq_numbers (bytes_at a.now i count) (bytes_at b.now j count) }
 {

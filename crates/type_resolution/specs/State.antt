@@ -25,7 +25,7 @@ pub record Ready (file words : List ℕ) (depth : ℕ) (types : List ℕ) (deman
 
 -- ------------------------------------------------------------------ what a result means, with the table behind it
 
--- an answer, as f takes it, or the number of a refusal
+-- the answer through f, or the refusal's number
 unfoldable pub answer_by : {A B : Type 0} → (A → B) → Result A Refusal → Table → Outcome B
 answer_by f (Ok x) table = answered (f x) table
 answer_by f (Err refusal) table = refused (refusal_number refusal)
@@ -38,7 +38,7 @@ typed = answer_by (λ t. t)
 abbrev pub linked : Result (Option ℕ) Refusal → Table → Outcome (Option ℕ)
 linked = answer_by (λ t. t)
 
--- an answer that nobody looks at
+-- nothing but whether it was refused
 abbrev pub ignored : Result (Unit {0}) Refusal → Table → Outcome (Unit {0})
 ignored = answer_by (λ x. x)
 

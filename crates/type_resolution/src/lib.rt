@@ -5,6 +5,9 @@
 // `ast_type`, `def_type`, `struct_data`, `fn_signature` and `expr_type`. A helper for one kind of node has that node's keyword in the index file
 // (`lit`, `un`, `bin`, `call`, `member`, `index`, `tuple`, `tidx`, `arr`, `rep`, `new`), one for a type expression likewise (`tup`, since `tuple` is
 // the node's, and `array`).
+// Each member is given the index, the two lent buffers, how many demands are open, and the module. The buffers are two parameters and no struct of two
+// `&mut` fields: behind a `&mut` of such a struct a shared reborrow of a field leaves nothing known of what the field holds but its length, so the
+// promises of the reads (`type_table`) would say nothing of the words that are changed next.
 #![tactic(auto)]
 
 ghost use Rattle.std.specs.Prelude.{◌≡◌, ◌+◌, ◌≤◌, ◌<◌, Some, length};
