@@ -1,5 +1,5 @@
 -- Which arm of a program a value's variant takes, and results that are turned over once more. Assumes nothing.
-use Rattle.std.specs.Prelude.{Result, Ok, Err}
+use Rattle.std.specs.Prelude.{Result, Ok}
 use Rattle.refusals.specs.declared.Refusal.{Refusal}
 use Rattle.type_resolution.specs.State.{answer_by}
 use Rattle.records.specs.declared.DefinitionIndex.{DefinitionIndex}
@@ -33,10 +33,10 @@ use Rattle.resolution.specs.TableOk.{OptionBelow}
 use Rattle.resolution.proofs.SafeReads.{hint_below, array_below, row_below}
 use Rattle.model.proofs.Tests.{eqb_self, eqb_sound, some-injective}
 use lib.Dec.{eqb}
-use Rattle.type_resolution.specs.State.{Ready, Runs, typed, linked, ignored}
+use Rattle.type_resolution.specs.State.{Ready, Runs, typed, linked}
 use Rattle.type_resolution.specs.Shapes.{struct_named, struct_type, signature_type, declared_type, repeat_in}
 use Rattle.type_resolution.specs.Leaves.{Passed, Returned, NumericOr, StructFields, FunctionParts, HintBelow}
-use Rattle.type_resolution.proofs.Running.{is_ok, is_err, ends, answers, knows, knows_nothing, then_on, then_stop, some_runs, none_runs, look_runs, same_runs}
+use Rattle.type_resolution.proofs.Running.{is_ok, ends, answers, knows, knows_nothing, then_on, some_runs, none_runs, look_runs, same_runs}
 use Rattle.type_resolution.proofs.Shaped.{param_reads, return_reads}
 
 -- ------------------------------------------------------------------ the variant that a value has

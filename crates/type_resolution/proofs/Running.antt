@@ -3,9 +3,9 @@ use mathlib.Core.Path.{◌≡◌, refl, sym, ap, subst, subst⁻¹, ◌∙◌}
 use mathlib.Core.Bool.{Bool, true, false, false≢true}
 use Prim.Native.Nat.{ℕ, ◌+◌, ◌*◌, ◌-◌, ◌<◌}
 use native.Mathlib.Omega.{arith}
-use Rattle.std.specs.Prelude.{Option, None, Some, Result, Ok, Err, IsErr, IsErrAnd}
+use Rattle.std.specs.Prelude.{Option, None, Some, Result, Ok, Err, IsErr, IsErrAnd, ok_or}
+use Rattle.std.specs.Result.{result_ok}
 use mathlib.Core.List.{List}
-use lib.ListN.{take}
 use Rattle.records.specs.Layout.{index_of}
 use Rattle.resolution.specs.TypeData.{TypeData}
 use Rattle.resolution.specs.Types.{Table, data_of}
@@ -58,6 +58,27 @@ handed_on {r = Err e} h = ap Err h.1
 pub is_handed_on : {A B : Type 0} (f : A → B) (refusal : Refusal) {r : Result A Refusal} → IsErr r × IsErrAnd r (λ e. e ≡ refusal) → Stops (answer_by f) r (refusal_number refusal)
 is_handed_on f refusal h = is_err f (handed_on h)
 
+-- a link that `ok_or` finds, and one that it refuses
+pub was_there : {A : Type 0} {o : Option A} {r : Result A Refusal} {x : A} → o ≡ result_ok r → r ≡ Ok x → o ≡ Some x
+was_there is e = is ∙ ap result_ok e
+
+pub was_missing : {A : Type 0} {o : Option A} {r : Result A Refusal} {refusal : Refusal} → o ≡ result_ok r → r ≡ Err refusal → o ≡ None
+was_missing is e = is ∙ ap result_ok e
+
+refusal_in : {A : Type 0} → Refusal → Result A Refusal → Refusal
+refusal_in given (Ok x) = given
+refusal_in given (Err refusal) = refusal
+
+given_in : {A : Type 0} (o : Option A) (given : Refusal) → refusal_in given (ok_or o given) ≡ given
+unfolding refusal_in
+given_in None given = refl
+given_in (Some x) given = refl
+
+-- the refusal is the one that it was given
+is_given : {A : Type 0} (o : Option A) (given : Refusal) {r : Result A Refusal} {refusal : Refusal} → r ≡ ok_or o given → r ≡ Err refusal → refusal ≡ given
+unfolding refusal_in
+is_given o given is e = sym (ap (refusal_in given) e) ∙ ap (refusal_in given) is ∙ given_in o given
+
 -- ------------------------------------------------------------------ ends
 
 module _ {A R : Type 0} {meaning : R → Table → Outcome A} {file words : List ℕ} {depth : ℕ} {T : List ℕ} {O : List (List ℕ)} (ok : Ready file words depth T O) where
@@ -76,6 +97,11 @@ module _ {file words : List ℕ} {depth : ℕ} {T : List ℕ} {O : List (List �
 
   pub refuses : (refusal : Refusal) → Runs typed file words (refuse (refusal_number refusal)) depth T O T O (Err refusal)
   refuses refusal = stops ok (is_err _ refl)
+
+  -- a missing link, refused as `ok_or` was told
+  pub missing_runs : {A : Type 0} (o : Option A) (given : Refusal) {r : Result A Refusal} {refusal : Refusal} {s : Result ℕ Refusal} → r ≡ ok_or o given → r ≡ Err refusal
+      → IsErr s × IsErrAnd s (λ e. e ≡ refusal) → Runs typed file words (refuse (refusal_number given)) depth T O T O s
+  missing_runs o given {s = s} is e h = stops ok (subst (λ n. Stops (answer_by (λ t. t)) s (refusal_number n)) (is_given o given is e) (is_handed_on _ _ h))
 
   pub knows : {n m : ℕ} → n ≡ m → Runs linked file words (done (Some m)) depth T O T O (Ok (Some n))
   knows e = ends ok (is_ok _ (ap (λ n. Ok (Some n)) e))

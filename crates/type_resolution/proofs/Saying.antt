@@ -20,7 +20,7 @@ use Rattle.views.specs.Promises.{PositionExpression}
 use Rattle.views.specs.declared.Asked.{Asked}
 use Rattle.type_resolution.specs.State.{Ready, Runs, typed}
 use Rattle.type_resolution.specs.Asking.{says, said_type}
-use Rattle.type_resolution.proofs.Running.{Gives, Stops, is_ok, is_err, ends, then_on, then_stop, some_runs, none_runs, same_runs}
+use Rattle.type_resolution.proofs.Running.{is_ok, is_err, ends, then_on, then_stop, some_runs, none_runs, same_runs}
 
 module _ {file words : List ℕ} {depth : ℕ} {T : List ℕ} {O : List (List ℕ)} {T' : List ℕ} {O' : List (List ℕ)} where
   -- a type that was resolved is said

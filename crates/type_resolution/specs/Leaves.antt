@@ -12,7 +12,7 @@ use Rattle.records.specs.declared.Definition.{Definition}
 use Rattle.records.specs.declared.ExpressionInfo.{ExpressionInfo}
 use Rattle.records.specs.declared.Items.{Items}
 use Rattle.records.specs.declared.DefinitionKind.{DefinitionKind}
-use Rattle.resolution.specs.Types.{Table, error}
+use Rattle.resolution.specs.Types.{Table}
 use Rattle.resolution.specs.Views.{numeric, numeric_context}
 use Rattle.type_table.specs.Layout.{table_of, type_count}
 use Rattle.type_table.specs.Reads.{param_read, return_read}

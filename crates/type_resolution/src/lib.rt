@@ -708,9 +708,7 @@ fn un(
     requires { ReadyIn index.now depth types.old demands.old }
     ensures { RunsIn typed index.now (unary_type m context (unary_op_of op) (expression_link_of operand)) depth types.old demands.old types.new demands.new result }
 {
-    let Some(e) = operand else {
-        return Err(Refusal::MissingChild);
-    };
+    let e = operand.ok_or(Refusal::MissingChild)?;
     let t = expr_type(index, types, demands, depth, m, e, context)?;
     Ok(compatibility::unary_result(index.file, types, op, t))
 }
@@ -731,12 +729,8 @@ fn bin(
     requires { ReadyIn index.now depth types.old demands.old }
     ensures { RunsIn typed index.now (binary_type m (module_row index.now.file.now index.now.words.now m) context (binary_op_of op) (expression_link_of left) (expression_link_of right)) depth types.old demands.old types.new demands.new result }
 {
-    let Some(a) = left else {
-        return Err(Refusal::MissingChild);
-    };
-    let Some(b) = right else {
-        return Err(Refusal::MissingChild);
-    };
+    let a = left.ok_or(Refusal::MissingChild)?;
+    let b = right.ok_or(Refusal::MissingChild)?;
     if views::right_first(index.words, m, op, a, b) {
         let y = expr_type(index, types, demands, depth, m, b, context)?;
         let x = expr_type(index, types, demands, depth, m, a, Some(y))?;
@@ -926,9 +920,7 @@ fn tidx(
     requires { ReadyIn index.now depth types.old demands.old }
     ensures { RunsIn typed index.now (tuple_index_type m (expression_link_of e) i) depth types.old demands.old types.new demands.new result }
 {
-    let Some(x) = e else {
-        return Err(Refusal::MissingChild);
-    };
+    let x = e.ok_or(Refusal::MissingChild)?;
     let t = expr_type(index, types, demands, depth, m, x, None)?;
     Ok(type_table::tuple_element(types, t, i))
 }
@@ -955,9 +947,7 @@ fn arr(
     if count == 0 {
         return empty(index, types, demands, depth, m, s, expected, hint);
     }
-    let Some(e) = records::item_link(index.words, first, 0) else {
-        return Err(Refusal::MissingChild);
-    };
+    let e = records::item_link(index.words, first, 0).ok_or(Refusal::MissingChild)?;
     let t = expr_type(index, types, demands, depth, m, e, hint)?;
     let fits = same(index, types, demands, depth, m, t, list)?;
     if fits {
@@ -1045,9 +1035,7 @@ fn rep(
     ensures { RunsIn typed index.now (repeat_in m context (expression_link_of element) size) depth types.old demands.old types.new demands.new result }
 {
     let hint = type_table::element_hint(types, context);
-    let Some(e) = element else {
-        return Err(Refusal::MissingChild);
-    };
+    let e = element.ok_or(Refusal::MissingChild)?;
     let t = expr_type(index, types, demands, depth, m, e, hint)?;
     type_table::intern_array(index.file, types, t, size)
 }

@@ -1,6 +1,5 @@
 -- The proof of the cycle of calls. Assumes nothing.
 use mathlib.Core.Path.{refl, ap, ◌∙◌, sym, subst}
-use mathlib.Core.Bool.{not}
 use native.Mathlib.Omega.{arith}
 use lib.ListN.{take}
 use Rattle.std.specs.Prelude.{slice_get}
@@ -12,7 +11,7 @@ use Rattle.type_table.specs.Reads.{numeric_context_read}
 use Rattle.type_table.specs.Meaning.{found_signature_of}
 use Rattle.type_resolution.specs.Shapes.{ShortNode, ShortType, empty_array_in, struct_named, repeat_in, tuple_expr_type}
 use Rattle.type_resolution.proofs.Leading.{leads_from, numbers_begin, collecting_begin, all_more, all_stops, all_ends, links_begin, arguments_more, arguments_stop, arguments_done, types_kept, gathering_begin, elements_more, elements_skip, elements_stop, elements_end, at_most_all, taken_length, links_behind_first, same_absent, same_more, same_differs, same_stops, same_all}
-use Rattle.type_resolution.proofs.Running.{is_ok, is_err, is_handed_on, answers, refuses, then_on, then_stop, if_true, if_false, some_runs, none_runs, data_runs, entered_ready, entered_stops, entered_runs, enter_falls, look_runs, reads, same_runs, ends, knows, knows_nothing}
+use Rattle.type_resolution.proofs.Running.{is_ok, is_err, is_handed_on, was_there, was_missing, missing_runs, answers, then_on, then_stop, if_true, if_false, some_runs, none_runs, data_runs, entered_ready, entered_stops, entered_runs, enter_falls, look_runs, reads, same_runs, ends, knows, knows_nothing}
 use Rattle.type_resolution.proofs.Below.{expression_below, later_below, interns_runs, type_below, collected_below, later_all_below, elements_below, contexts_good}
 use Rattle.type_resolution.proofs.Arms.{hinted, hint_found, is_array, no_array, by_kind, or_error_runs, let_whole, let_part, element_below, hint_at, eq-eqb, ne_eqb, function_parted, no_function, numeric_runs, by_node, led_to, from_origin, given_context, passed_runs, returned_runs, repeated, struct_fielded, no_struct, by_type_expr, declared_as, valued_as, neither_as}
 use Rattle.type_resolution.proofs.Chains.{no_elements, some_elements, use_shaped, struct_listed, literal_numbered, identifier_shaped, literal_shaped, array_shaped, argument_shaped, field_shaped, signature_listed, tuple_looked}
@@ -57,29 +56,29 @@ arr-empty-requires t c = (omega (arith, c.decreases), (c.requires, hint_found c.
 pub arr-returns-then-count-eq0 : goal.arr-returns-then-count-eq0
 arr-returns-then-count-eq0 t c = no_elements _ _ _ _ c.element_hint-hint.result (c.element_hint-hint.ensures _) _ _ c.if-count-eq0.true c.empty.ensures
 
-pub arr-returns-in_default : goal.arr-returns-in_default
-arr-returns-in_default t c = some_elements _ _ _ _ c.element_hint-hint.result (c.element_hint-hint.ensures _) _ _ (omega (arith, c.if-count-eq0.false)) (none_runs _ _ _ (sym c.item_link.ensures ∙ ap expression_link_of c.in_default.is) (refuses c.requires Refusal.MissingChild))
+pub arr-returns-in_err-e : goal.arr-returns-in_err-e
+arr-returns-in_err-e t c = some_elements _ _ _ _ c.element_hint-hint.result (c.element_hint-hint.ensures _) _ _ (omega (arith, c.if-count-eq0.false)) (none_runs _ _ _ (sym c.item_link.ensures ∙ ap expression_link_of (was_missing c.ok_or.ensures.ok_part c.in_err-e.was)) (missing_runs c.requires _ Refusal.MissingChild c.ok_or.ensures.value c.in_err-e.was c.from_residual.ensures))
 
 pub arr-expr_type-requires : goal.arr-expr_type-requires
 arr-expr_type-requires t c = (omega (arith, c.decreases), c.requires)
 
 pub arr-returns-in_err-t : goal.arr-returns-in_err-t
-arr-returns-in_err-t t c = some_elements _ _ _ _ c.element_hint-hint.result (c.element_hint-hint.ensures _) _ _ (omega (arith, c.if-count-eq0.false)) (some_runs _ _ _ (sym c.item_link.ensures ∙ ap expression_link_of c.in-Some.is) (then_stop c.expr_type.ensures _ (is_err _ c.in_err-t.was) (is_handed_on _ _ c.from_residual.ensures)))
+arr-returns-in_err-t t c = some_elements _ _ _ _ c.element_hint-hint.result (c.element_hint-hint.ensures _) _ _ (omega (arith, c.if-count-eq0.false)) (some_runs _ _ _ (sym c.item_link.ensures ∙ ap expression_link_of (was_there c.ok_or.ensures.ok_part c.in_ok-e.was)) (then_stop c.expr_type.ensures _ (is_err _ c.in_err-t.was) (is_handed_on _ _ c.from_residual-in_err-t.ensures)))
 
 pub arr-same-requires : goal.arr-same-requires
 arr-same-requires t c = (omega (arith, c.decreases), (c.expr_type.ensures.ready, omega (arith, c.if-count-eq0.false)))
 
 pub arr-returns-in_err-fits : goal.arr-returns-in_err-fits
-arr-returns-in_err-fits t c = some_elements _ _ _ _ c.element_hint-hint.result (c.element_hint-hint.ensures _) _ _ (omega (arith, c.if-count-eq0.false)) (some_runs _ _ _ (sym c.item_link.ensures ∙ ap expression_link_of c.in-Some.is) (then_on c.expr_type.ensures _ (is_ok _ c.in_ok-t.was) (then_stop c.same.ensures _ (is_err _ c.in_err-fits.was) (is_handed_on _ _ c.from_residual-in_err-fits.ensures))))
+arr-returns-in_err-fits t c = some_elements _ _ _ _ c.element_hint-hint.result (c.element_hint-hint.ensures _) _ _ (omega (arith, c.if-count-eq0.false)) (some_runs _ _ _ (sym c.item_link.ensures ∙ ap expression_link_of (was_there c.ok_or.ensures.ok_part c.in_ok-e.was)) (then_on c.expr_type.ensures _ (is_ok _ c.in_ok-t.was) (then_stop c.same.ensures _ (is_err _ c.in_err-fits.was) (is_handed_on _ _ c.from_residual-in_err-fits.ensures))))
 
 pub arr-intern_array-requires-clause-element_bound : goal.arr-intern_array-requires-clause-element_bound
 arr-intern_array-requires-clause-element_bound t c = later_below c.same.ensures.grows (expression_below c.requires (hinted c.requires _ _ (c.element_hint-hint.ensures _)) c.expr_type.ensures c.in_ok-t.was)
 
 pub arr-returns-then-fits : goal.arr-returns-then-fits
-arr-returns-then-fits t c = some_elements _ _ _ _ c.element_hint-hint.result (c.element_hint-hint.ensures _) _ _ (omega (arith, c.if-count-eq0.false)) (some_runs _ _ _ (sym c.item_link.ensures ∙ ap expression_link_of c.in-Some.is) (then_on c.expr_type.ensures _ (is_ok _ c.in_ok-t.was) (then_on c.same.ensures _ (is_ok _ c.in_ok-fits.was) (if_true _ _ _ refl c.if-fits.true (interns_runs c.same.ensures.ready c.intern_array.ensures)))))
+arr-returns-then-fits t c = some_elements _ _ _ _ c.element_hint-hint.result (c.element_hint-hint.ensures _) _ _ (omega (arith, c.if-count-eq0.false)) (some_runs _ _ _ (sym c.item_link.ensures ∙ ap expression_link_of (was_there c.ok_or.ensures.ok_part c.in_ok-e.was)) (then_on c.expr_type.ensures _ (is_ok _ c.in_ok-t.was) (then_on c.same.ensures _ (is_ok _ c.in_ok-fits.was) (if_true _ _ _ refl c.if-fits.true (interns_runs c.same.ensures.ready c.intern_array.ensures)))))
 
 pub arr-returns-else-fits : goal.arr-returns-else-fits
-arr-returns-else-fits t c = some_elements _ _ _ _ c.element_hint-hint.result (c.element_hint-hint.ensures _) _ _ (omega (arith, c.if-count-eq0.false)) (some_runs _ _ _ (sym c.item_link.ensures ∙ ap expression_link_of c.in-Some.is) (then_on c.expr_type.ensures _ (is_ok _ c.in_ok-t.was) (then_on c.same.ensures _ (is_ok _ c.in_ok-fits.was) (if_false _ _ _ refl c.if-fits.false (answers c.same.ensures.ready refl)))))
+arr-returns-else-fits t c = some_elements _ _ _ _ c.element_hint-hint.result (c.element_hint-hint.ensures _) _ _ (omega (arith, c.if-count-eq0.false)) (some_runs _ _ _ (sym c.item_link.ensures ∙ ap expression_link_of (was_there c.ok_or.ensures.ok_part c.in_ok-e.was)) (then_on c.expr_type.ensures _ (is_ok _ c.in_ok-t.was) (then_on c.same.ensures _ (is_ok _ c.in_ok-fits.was) (if_false _ _ _ refl c.if-fits.false (answers c.same.ensures.ready refl)))))
 
 pub array-returns-then-names_array_expr : goal.array-returns-then-names_array_expr
 unfolding array_type
@@ -118,49 +117,49 @@ ast_type-ty-requires t c = (enter_falls 3 (omega arith) c.enter.ensures c.in_ok-
 pub ast_type-returns : goal.ast_type-returns
 ast_type-returns t c = entered_runs c.requires c.enter.ensures c.in_ok-next.was (type_found _ _ _ c.type_in.ensures c.in-Some.is c.ty.ensures)
 
-pub bin-returns-in_default : goal.bin-returns-in_default
+pub bin-returns-in_err-a : goal.bin-returns-in_err-a
 unfolding binary_type
-bin-returns-in_default t c = none_runs _ _ _ (ap expression_link_of c.in_default.is) (refuses c.requires Refusal.MissingChild)
+bin-returns-in_err-a t c = none_runs _ _ _ (ap expression_link_of (was_missing c.ok_or.ensures.ok_part c.in_err-a.was)) (missing_runs c.requires _ Refusal.MissingChild c.ok_or.ensures.value c.in_err-a.was c.from_residual.ensures)
 
-pub bin-returns-in_default-right : goal.bin-returns-in_default-right
+pub bin-returns-in_err-b : goal.bin-returns-in_err-b
 unfolding binary_type
-bin-returns-in_default-right t c = some_runs _ _ _ (ap expression_link_of c.in-Some.is) (none_runs _ _ _ (ap expression_link_of c.in_default-right.is) (refuses c.requires Refusal.MissingChild))
+bin-returns-in_err-b t c = some_runs _ _ _ (ap expression_link_of (was_there c.ok_or.ensures.ok_part c.in_ok-a.was)) (none_runs _ _ _ (ap expression_link_of (was_missing c.ok_or-2.ensures.ok_part c.in_err-b.was)) (missing_runs c.requires _ Refusal.MissingChild c.ok_or-2.ensures.value c.in_err-b.was c.from_residual-in_err-b.ensures))
 
 pub bin-expr_type-requires : goal.bin-expr_type-requires
 bin-expr_type-requires t c = (omega (arith, c.decreases), c.requires)
 
 pub bin-returns-in_err-y : goal.bin-returns-in_err-y
 unfolding binary_type
-bin-returns-in_err-y t c = some_runs _ _ _ (ap expression_link_of c.in-Some.is) (some_runs _ _ _ (ap expression_link_of c.in-Some-right.is) (if_true _ _ _ (c.right_first.ensures.same _) c.if-right_first.true (then_stop c.expr_type.ensures _ (is_err _ c.in_err-y.was) (is_handed_on _ _ c.from_residual.ensures))))
+bin-returns-in_err-y t c = some_runs _ _ _ (ap expression_link_of (was_there c.ok_or.ensures.ok_part c.in_ok-a.was)) (some_runs _ _ _ (ap expression_link_of (was_there c.ok_or-2.ensures.ok_part c.in_ok-b.was)) (if_true _ _ _ (c.right_first.ensures.same _) c.if-right_first.true (then_stop c.expr_type.ensures _ (is_err _ c.in_err-y.was) (is_handed_on _ _ c.from_residual-in_err-y.ensures))))
 
 pub bin-expr_type-requires-then-right_first : goal.bin-expr_type-requires-then-right_first
 bin-expr_type-requires-then-right_first t c = (omega (arith, c.decreases), c.expr_type.ensures.ready)
 
 pub bin-returns-in_err-x : goal.bin-returns-in_err-x
 unfolding binary_type
-bin-returns-in_err-x t c = some_runs _ _ _ (ap expression_link_of c.in-Some.is) (some_runs _ _ _ (ap expression_link_of c.in-Some-right.is) (if_true _ _ _ (c.right_first.ensures.same _) c.if-right_first.true (then_on c.expr_type.ensures _ (is_ok _ c.in_ok-y.was) (then_stop c.expr_type-then-right_first.ensures _ (is_err _ c.in_err-x.was) (is_handed_on _ _ c.from_residual-in_err-x.ensures)))))
+bin-returns-in_err-x t c = some_runs _ _ _ (ap expression_link_of (was_there c.ok_or.ensures.ok_part c.in_ok-a.was)) (some_runs _ _ _ (ap expression_link_of (was_there c.ok_or-2.ensures.ok_part c.in_ok-b.was)) (if_true _ _ _ (c.right_first.ensures.same _) c.if-right_first.true (then_on c.expr_type.ensures _ (is_ok _ c.in_ok-y.was) (then_stop c.expr_type-then-right_first.ensures _ (is_err _ c.in_err-x.was) (is_handed_on _ _ c.from_residual-in_err-x.ensures)))))
 
 pub bin-expr_type-requires-else-right_first : goal.bin-expr_type-requires-else-right_first
 bin-expr_type-requires-else-right_first t c = (omega (arith, c.decreases), c.requires)
 
 pub bin-returns-in_err-x-2 : goal.bin-returns-in_err-x-2
 unfolding binary_type
-bin-returns-in_err-x-2 t c = some_runs _ _ _ (ap expression_link_of c.in-Some.is) (some_runs _ _ _ (ap expression_link_of c.in-Some-right.is) (if_false _ _ _ (c.right_first.ensures.same _) c.if-right_first.false (then_stop c.expr_type-else-right_first.ensures _ (is_err _ c.in_err-x-2.was) (is_handed_on _ _ c.from_residual-in_err-x-2.ensures))))
+bin-returns-in_err-x-2 t c = some_runs _ _ _ (ap expression_link_of (was_there c.ok_or.ensures.ok_part c.in_ok-a.was)) (some_runs _ _ _ (ap expression_link_of (was_there c.ok_or-2.ensures.ok_part c.in_ok-b.was)) (if_false _ _ _ (c.right_first.ensures.same _) c.if-right_first.false (then_stop c.expr_type-else-right_first.ensures _ (is_err _ c.in_err-x-2.was) (is_handed_on _ _ c.from_residual-in_err-x-2.ensures))))
 
 pub bin-expr_type-requires-else-right_first-2 : goal.bin-expr_type-requires-else-right_first-2
 bin-expr_type-requires-else-right_first-2 t c = (omega (arith, c.decreases), c.expr_type-else-right_first.ensures.ready)
 
 pub bin-returns-in_err-y-2 : goal.bin-returns-in_err-y-2
 unfolding binary_type
-bin-returns-in_err-y-2 t c = some_runs _ _ _ (ap expression_link_of c.in-Some.is) (some_runs _ _ _ (ap expression_link_of c.in-Some-right.is) (if_false _ _ _ (c.right_first.ensures.same _) c.if-right_first.false (then_on c.expr_type-else-right_first.ensures _ (is_ok _ c.in_ok-x-2.was) (then_stop c.expr_type-else-right_first-2.ensures _ (is_err _ c.in_err-y-2.was) (is_handed_on _ _ c.from_residual-in_err-y-2.ensures)))))
+bin-returns-in_err-y-2 t c = some_runs _ _ _ (ap expression_link_of (was_there c.ok_or.ensures.ok_part c.in_ok-a.was)) (some_runs _ _ _ (ap expression_link_of (was_there c.ok_or-2.ensures.ok_part c.in_ok-b.was)) (if_false _ _ _ (c.right_first.ensures.same _) c.if-right_first.false (then_on c.expr_type-else-right_first.ensures _ (is_ok _ c.in_ok-x-2.was) (then_stop c.expr_type-else-right_first-2.ensures _ (is_err _ c.in_err-y-2.was) (is_handed_on _ _ c.from_residual-in_err-y-2.ensures)))))
 
 pub bin-returns-in_ok-x : goal.bin-returns-in_ok-x
 unfolding binary_type
-bin-returns-in_ok-x t c = some_runs _ _ _ (ap expression_link_of c.in-Some.is) (some_runs _ _ _ (ap expression_link_of c.in-Some-right.is) (if_true _ _ _ (c.right_first.ensures.same _) c.if-right_first.true (then_on c.expr_type.ensures _ (is_ok _ c.in_ok-y.was) (then_on c.expr_type-then-right_first.ensures _ (is_ok _ c.in_ok-x.was) (look_runs _ (answers c.expr_type-then-right_first.ensures.ready c.binary_result.ensures))))))
+bin-returns-in_ok-x t c = some_runs _ _ _ (ap expression_link_of (was_there c.ok_or.ensures.ok_part c.in_ok-a.was)) (some_runs _ _ _ (ap expression_link_of (was_there c.ok_or-2.ensures.ok_part c.in_ok-b.was)) (if_true _ _ _ (c.right_first.ensures.same _) c.if-right_first.true (then_on c.expr_type.ensures _ (is_ok _ c.in_ok-y.was) (then_on c.expr_type-then-right_first.ensures _ (is_ok _ c.in_ok-x.was) (look_runs _ (answers c.expr_type-then-right_first.ensures.ready c.binary_result.ensures))))))
 
 pub bin-returns-in_ok-y-2 : goal.bin-returns-in_ok-y-2
 unfolding binary_type
-bin-returns-in_ok-y-2 t c = some_runs _ _ _ (ap expression_link_of c.in-Some.is) (some_runs _ _ _ (ap expression_link_of c.in-Some-right.is) (if_false _ _ _ (c.right_first.ensures.same _) c.if-right_first.false (then_on c.expr_type-else-right_first.ensures _ (is_ok _ c.in_ok-x-2.was) (then_on c.expr_type-else-right_first-2.ensures _ (is_ok _ c.in_ok-y-2.was) (look_runs _ (answers c.expr_type-else-right_first-2.ensures.ready c.binary_result-else-right_first.ensures))))))
+bin-returns-in_ok-y-2 t c = some_runs _ _ _ (ap expression_link_of (was_there c.ok_or.ensures.ok_part c.in_ok-a.was)) (some_runs _ _ _ (ap expression_link_of (was_there c.ok_or-2.ensures.ok_part c.in_ok-b.was)) (if_false _ _ _ (c.right_first.ensures.same _) c.if-right_first.false (then_on c.expr_type-else-right_first.ensures _ (is_ok _ c.in_ok-x-2.was) (then_on c.expr_type-else-right_first-2.ensures _ (is_ok _ c.in_ok-y-2.was) (look_runs _ (answers c.expr_type-else-right_first-2.ensures.ready c.binary_result-else-right_first.ensures))))))
 
 pub call-returns-then-callee_is_builtin : goal.call-returns-then-callee_is_builtin
 unfolding call_type
@@ -680,23 +679,23 @@ pub origin-returns-in-Condition : goal.origin-returns-in-Condition
 unfolding return_context assignment_context context_from_origin
 origin-returns-in-Condition t c = from_origin _ _ c.args.info c.args.context _ c.in_default.is c.in-Condition.is (knows c.requires refl)
 
-pub rep-returns-in_default : goal.rep-returns-in_default
+pub rep-returns-in_err-e : goal.rep-returns-in_err-e
 unfolding array_repeat_type
-rep-returns-in_default t c = repeated _ _ _ _ (c.element_hint-hint.ensures _) (none_runs _ _ _ (ap expression_link_of c.in_default.is) (refuses c.requires Refusal.MissingChild))
+rep-returns-in_err-e t c = repeated _ _ _ _ (c.element_hint-hint.ensures _) (none_runs _ _ _ (ap expression_link_of (was_missing c.ok_or.ensures.ok_part c.in_err-e.was)) (missing_runs c.requires _ Refusal.MissingChild c.ok_or.ensures.value c.in_err-e.was c.from_residual.ensures))
 
 pub rep-expr_type-requires : goal.rep-expr_type-requires
 rep-expr_type-requires t c = (omega (arith, c.decreases), c.requires)
 
 pub rep-returns-in_err-t : goal.rep-returns-in_err-t
 unfolding array_repeat_type
-rep-returns-in_err-t t c = repeated _ _ _ _ (c.element_hint-hint.ensures _) (some_runs _ _ _ (ap expression_link_of c.in-Some.is) (then_stop c.expr_type.ensures _ (is_err _ c.in_err-t.was) (is_handed_on _ _ c.from_residual.ensures)))
+rep-returns-in_err-t t c = repeated _ _ _ _ (c.element_hint-hint.ensures _) (some_runs _ _ _ (ap expression_link_of (was_there c.ok_or.ensures.ok_part c.in_ok-e.was)) (then_stop c.expr_type.ensures _ (is_err _ c.in_err-t.was) (is_handed_on _ _ c.from_residual-in_err-t.ensures)))
 
 pub rep-intern_array-requires-clause-element_bound : goal.rep-intern_array-requires-clause-element_bound
 rep-intern_array-requires-clause-element_bound t c = expression_below c.requires (hinted c.requires _ _ (c.element_hint-hint.ensures _)) c.expr_type.ensures c.in_ok-t.was
 
 pub rep-returns : goal.rep-returns
 unfolding array_repeat_type
-rep-returns t c = repeated _ _ _ _ (c.element_hint-hint.ensures _) (some_runs _ _ _ (ap expression_link_of c.in-Some.is) (then_on c.expr_type.ensures _ (is_ok _ c.in_ok-t.was) (interns_runs c.expr_type.ensures.ready c.intern_array.ensures)))
+rep-returns t c = repeated _ _ _ _ (c.element_hint-hint.ensures _) (some_runs _ _ _ (ap expression_link_of (was_there c.ok_or.ensures.ok_part c.in_ok-e.was)) (then_on c.expr_type.ensures _ (is_ok _ c.in_ok-t.was) (interns_runs c.expr_type.ensures.ready c.intern_array.ensures)))
 
 pub same-loop-i-init : goal.same-loop-i-init
 same-loop-i-init t c = leads_from _ (ap (all_same_type _ _) (links_behind_first _ _ _ c.requires.le_count)) c.requires.ready
@@ -758,17 +757,17 @@ struct_data-fields-requires t c = (enter_falls 2 (omega arith) c.enter.ensures c
 pub struct_data-returns : goal.struct_data-returns
 struct_data-returns t c = entered_runs c.requires c.enter.ensures c.in_ok-next.was (struct_found _ _ c.definition_in.ensures c.in-Some.is (struct_fielded _ _ _ _ _ c.struct_fields.ensures c.in-Some-struct_fields.is c.fields.ensures))
 
-pub tidx-returns-in_default : goal.tidx-returns-in_default
-tidx-returns-in_default t c = same_runs (tuple_index_reads _ _ _) (none_runs _ _ _ (ap expression_link_of c.in_default.is) (refuses c.requires Refusal.MissingChild))
+pub tidx-returns-in_err-x : goal.tidx-returns-in_err-x
+tidx-returns-in_err-x t c = same_runs (tuple_index_reads _ _ _) (none_runs _ _ _ (ap expression_link_of (was_missing c.ok_or.ensures.ok_part c.in_err-x.was)) (missing_runs c.requires _ Refusal.MissingChild c.ok_or.ensures.value c.in_err-x.was c.from_residual.ensures))
 
 pub tidx-expr_type-requires : goal.tidx-expr_type-requires
 tidx-expr_type-requires t c = (omega (arith, c.decreases), c.requires)
 
 pub tidx-returns-in_err-t : goal.tidx-returns-in_err-t
-tidx-returns-in_err-t t c = same_runs (tuple_index_reads _ _ _) (some_runs _ _ _ (ap expression_link_of c.in-Some.is) (then_stop c.expr_type.ensures _ (is_err _ c.in_err-t.was) (is_handed_on _ _ c.from_residual.ensures)))
+tidx-returns-in_err-t t c = same_runs (tuple_index_reads _ _ _) (some_runs _ _ _ (ap expression_link_of (was_there c.ok_or.ensures.ok_part c.in_ok-x.was)) (then_stop c.expr_type.ensures _ (is_err _ c.in_err-t.was) (is_handed_on _ _ c.from_residual-in_err-t.ensures)))
 
 pub tidx-returns : goal.tidx-returns
-tidx-returns t c = same_runs (tuple_index_reads _ _ _) (some_runs _ _ _ (ap expression_link_of c.in-Some.is) (then_on c.expr_type.ensures _ (is_ok _ c.in_ok-t.was) (reads c.expr_type.ensures.ready (c.tuple_element.ensures _))))
+tidx-returns t c = same_runs (tuple_index_reads _ _ _) (some_runs _ _ _ (ap expression_link_of (was_there c.ok_or.ensures.ok_part c.in_ok-x.was)) (then_on c.expr_type.ensures _ (is_ok _ c.in_ok-t.was) (reads c.expr_type.ensures.ready (c.tuple_element.ensures _))))
 
 pub tup-all-requires : goal.tup-all-requires
 tup-all-requires t c = (omega (arith, c.decreases), (c.requires.ready, c.requires.count_bound))
@@ -849,20 +848,20 @@ pub ty-returns-in-FixedArray : goal.ty-returns-in-FixedArray
 unfolding type_expr_type tuple_expr_type
 ty-returns-in-FixedArray t c = by_type_expr _ _ _ c.in-FixedArray.is c.array.ensures
 
-pub un-returns-in_default : goal.un-returns-in_default
+pub un-returns-in_err-e : goal.un-returns-in_err-e
 unfolding unary_type
-un-returns-in_default t c = none_runs _ _ _ (ap expression_link_of c.in_default.is) (refuses c.requires Refusal.MissingChild)
+un-returns-in_err-e t c = none_runs _ _ _ (ap expression_link_of (was_missing c.ok_or.ensures.ok_part c.in_err-e.was)) (missing_runs c.requires _ Refusal.MissingChild c.ok_or.ensures.value c.in_err-e.was c.from_residual.ensures)
 
 pub un-expr_type-requires : goal.un-expr_type-requires
 un-expr_type-requires t c = (omega (arith, c.decreases), c.requires)
 
 pub un-returns-in_err-t : goal.un-returns-in_err-t
 unfolding unary_type
-un-returns-in_err-t t c = some_runs _ _ _ (ap expression_link_of c.in-Some.is) (then_stop c.expr_type.ensures _ (is_err _ c.in_err-t.was) (is_handed_on _ _ c.from_residual.ensures))
+un-returns-in_err-t t c = some_runs _ _ _ (ap expression_link_of (was_there c.ok_or.ensures.ok_part c.in_ok-e.was)) (then_stop c.expr_type.ensures _ (is_err _ c.in_err-t.was) (is_handed_on _ _ c.from_residual-in_err-t.ensures))
 
 pub un-returns : goal.un-returns
 unfolding unary_type
-un-returns t c = some_runs _ _ _ (ap expression_link_of c.in-Some.is) (then_on c.expr_type.ensures _ (is_ok _ c.in_ok-t.was) (look_runs _ (answers c.expr_type.ensures.ready c.unary_result.ensures)))
+un-returns t c = some_runs _ _ _ (ap expression_link_of (was_there c.ok_or.ensures.ok_part c.in_ok-e.was)) (then_on c.expr_type.ensures _ (is_ok _ c.in_ok-t.was) (look_runs _ (answers c.expr_type.ensures.ready c.unary_result.ensures)))
 
 pub var-ast_type-requires : goal.var-ast_type-requires
 var-ast_type-requires t c = (omega (arith, c.decreases), c.requires)
