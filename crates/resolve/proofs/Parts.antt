@@ -12,9 +12,11 @@ use Rattle.line_text.specs.Lines.{put_first}
 use Rattle.answers.specs.Meaning.{Lines, lines_from, answers_of, lines_out}
 use Rattle.answers.specs.Promises.{Buffers, AnsweredFrom}
 use Rattle.answers.specs.Whole.{Calls}
-use Rattle.answers.specs.Numbers.{LinesNumbers}
+use Rattle.std.specs.Prelude.{Ok}
+use Rattle.answers.specs.Numbers.{LinesNumbers, lines_numbers}
+use Rattle.answers.specs.declared.LinesAnswer.{LinesAnswer}
 use Rattle.answers.proofs.Whole.{always_later}
-use Rattle.resolve.specs.Parts.{RefusedPut, More, Last}
+use Rattle.resolve.specs.Parts.{RefusedPut, More, Last, PartIs}
 
 -- the text stands at the start
 front : (text old out : Text) → out ≡ put_first text old → take (length text) out ≡ text
@@ -24,7 +26,7 @@ within : (text old out : Text) → out ≡ put_first text old → length text �
 within text old out e = omega (arith, ap length e, length-append text (drop (length text) old))
 
 module _ (file : Text) (from start : ℕ) (before after : Buffers) where
-  pub more_part : (next next_line n : ℕ) → AnsweredFrom file from start before after (LinesNumbers.More next next_line n) → More file from start after.out next next_line n
+  more_part : (next next_line n : ℕ) → AnsweredFrom file from start before after (LinesNumbers.More next next_line n) → More file from start after.out next next_line n
   unfolding answers_of lines_out
   more_part next next_line n promised = at (lines_from file from start) refl promised.first.is promised.first.out_is
     where
@@ -44,7 +46,7 @@ module _ (file : Text) (from start : ℕ) (before after : Buffers) where
           }
       at (Lines.file_refused number line) e is out = let z : ◌≡◌ {A = ℕ} 0 1 = cc in absurd (omega arith)
 
-  pub end_part : (n : ℕ) → AnsweredFrom file from start before after (LinesNumbers.End n) → Last file from start after.out n
+  end_part : (n : ℕ) → AnsweredFrom file from start before after (LinesNumbers.End n) → Last file from start after.out n
   unfolding answers_of lines_out
   end_part n promised = at (lines_from file from start) refl promised.first.is promised.first.out_is
     where
@@ -57,6 +59,10 @@ module _ (file : Text) (from start : ℕ) (before after : Buffers) where
           }
       at (Lines.more number number_line text) e is out = let z : ◌≡◌ {A = ℕ} 0 1 = cc in absurd (omega arith)
       at (Lines.file_refused number line) e is out = let z : ◌≡◌ {A = ℕ} 0 1 = cc in absurd (omega arith)
+
+  pub lines_part : (lines : LinesAnswer) → AnsweredFrom file from start before after (lines_numbers (Ok lines)) → PartIs file from start after.out lines
+  lines_part (LinesAnswer.More next next_line n) promised = more_part next next_line n promised
+  lines_part (LinesAnswer.End n) promised = end_part n promised
 
   pub refused_part : (number line : ℕ) → AnsweredFrom file from start before after (LinesNumbers.FileRefused number line)
       → (out : Text) (n : ℕ) → 4160 ≤ length after.out → length out ≡ length after.out → RefusedPut (refusal_line number line) after.out out n → Last file from start out n

@@ -3,7 +3,7 @@ use Rattle.std.specs.Prelude.{ℕ, ◌≤◌, ◌<◌, ◌++◌, length, take}
 use Rattle.model.specs.Common.{Text}
 use Rattle.type_text.specs.Text.{Wrote}
 use Rattle.answers.specs.Whole.{lines_left, Calls}
-use Rattle.resolve.specs.declared.Part.{Part}
+use Rattle.answers.specs.declared.LinesAnswer.{LinesAnswer}
 
 -- the line of a refused file is few bytes
 pub record RefusedPut (line out out' : Text) (r : ℕ) : Type 0 where
@@ -21,6 +21,6 @@ pub record Last (file : Text) (from line : ℕ) (out : Text) (n : ℕ) : Type 0 
   pub fits : n ≤ length out
   pub is : Calls file from line (take n out)
 
-abbrev pub PartIs : Text → ℕ → ℕ → Text → Part → Type 0
-PartIs file from line out (Part.More next next_line n) = More file from line out next next_line n
-PartIs file from line out (Part.Last n) = Last file from line out n
+abbrev pub PartIs : Text → ℕ → ℕ → Text → LinesAnswer → Type 0
+PartIs file from line out (LinesAnswer.More next next_line n) = More file from line out next next_line n
+PartIs file from line out (LinesAnswer.End n) = Last file from line out n

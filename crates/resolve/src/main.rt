@@ -11,13 +11,6 @@ use demands::Place;
 use std::io;
 use std::io::{Print, Read};
 
-// What stands at the start of the answer buffer is printed: the question and its line to go on with and how many bytes, or the last bytes.
-#[derive(Clone, Copy)]
-pub enum Part {
-    More(u32, u32, usize),
-    Last(usize),
-}
-
 // A file of one byte more than the limit fits, so that it is seen to be too long.
 fn input() -> [u8; 65537]
     ensures { 65537 ≡ length result }
@@ -50,7 +43,8 @@ fn answer_bytes() -> [u8; 4160]
     [0; 4160]
 }
 
-// Puts the line of a refused file at the start of the bytes, and says how long it is.
+// Puts the line of a refused file at the start of the bytes, and says how long it is. It takes the two numbers that it writes: of a struct's field or a call's
+// result the proof would have to say again that it has ten digits at most.
 fn put_refused(number: u32, line: u32, out: &mut [u8]) -> usize
     requires { 4160 ≤ length out.old }
     ensures { RefusedPut (refusal_line number line) out.old out.new result }
@@ -62,7 +56,7 @@ fn put_refused(number: u32, line: u32, out: &mut [u8]) -> usize
     type_text::put(out, second, b"\n")
 }
 
-// What is printed from a question's line on.
+// What is printed from a question's line on: the question and its line to go on with and how many bytes, or the last bytes, those of a refused file's line too.
 fn next_part(
     file: &[u8],
     from: u32,
@@ -71,16 +65,13 @@ fn next_part(
     types: &mut [u32],
     demands: &mut [Place],
     out: &mut [u8],
-) -> Part
+) -> LinesAnswer
     requires { Long (length records.old) (length types.old) (length demands.old) (length out.old) }
     ensures { PartIs file.now from line out.new result }
 {
     match answers::answer_from(file, from, line, records, types, demands, out) {
-        Ok(lines) => match lines {
-            LinesAnswer::More(next, next_line, n) => Part::More(next, next_line, n),
-            LinesAnswer::End(n) => Part::Last(n),
-        },
-        Err(refused) => Part::Last(put_refused(refused.refusal.number(), refused.line, out)),
+        Ok(lines) => lines,
+        Err(refused) => LinesAnswer::End(put_refused(refused.refusal.number(), refused.line, out)),
     }
 }
 
@@ -123,12 +114,12 @@ fn main(rt: HostRuntime) -> io::Result<()> {
             &mut demands,
             &mut out,
         ) {
-            Part::More(next, next_line, k) => {
+            LinesAnswer::More(next, next_line, k) => {
                 rt.write_all(&out[..k])?;
                 from = next;
                 line = next_line;
             }
-            Part::Last(k) => {
+            LinesAnswer::End(k) => {
                 rt.write_all(&out[..k])?;
                 return Ok(());
             }

@@ -2,26 +2,17 @@
 use native.Mathlib.Omega.{arith}
 use Rattle.refusals.specs.Numbers.{file_refusal_number}
 use mathlib.Core.Path.{subst}
-use Rattle.std.specs.Prelude.{Ok}
-use Rattle.answers.specs.Numbers.{lines_numbers}
 use Rattle.resolution.specs.Resolve.{refusal_line}
 use Rattle.resolve.specs.Parts.{RefusedPut}
-use Rattle.answers.specs.Promises.{buffers, AnsweredFrom}
-use Rattle.resolve.proofs.Parts.{more_part, end_part, refused_part}
+use Rattle.answers.specs.Promises.{buffers}
+use Rattle.resolve.proofs.Parts.{lines_part, refused_part}
 use Rattle.resolve.proofs.next_part.Goals as goal
 
-pub returns-in-More : goal.returns-in-More
-returns-in-More c =
+pub returns-in-Ok : goal.returns-in-Ok
+returns-in-Ok c =
     let a = c.args in
     let new = c.answer_from.new in
-    let case = c.in-More in
-    more_part a.file.now a.from a.line (buffers a.records.now a.types.now a.demands.now a.out.now) (buffers new.records new.types new.demands new.out) case.next case.next_line case.n (subst (λ l. AnsweredFrom a.file.now a.from a.line (buffers a.records.now a.types.now a.demands.now a.out.now) (buffers new.records new.types new.demands new.out) (lines_numbers (Ok l))) case.is (c.in-Ok.ensures.full c.requires))
-
-pub returns-in-End : goal.returns-in-End
-returns-in-End c =
-    let a = c.args in
-    let new = c.answer_from.new in
-    end_part a.file.now a.from a.line (buffers a.records.now a.types.now a.demands.now a.out.now) (buffers new.records new.types new.demands new.out) c.in-End.n (subst (λ l. AnsweredFrom a.file.now a.from a.line (buffers a.records.now a.types.now a.demands.now a.out.now) (buffers new.records new.types new.demands new.out) (lines_numbers (Ok l))) c.in-End.is (c.in-Ok.ensures.full c.requires))
+    lines_part a.file.now a.from a.line (buffers a.records.now a.types.now a.demands.now a.out.now) (buffers new.records new.types new.demands new.out) c.in-Ok.lines (c.in-Ok.ensures.full c.requires)
 
 pub returns-in-Err : goal.returns-in-Err
 returns-in-Err c =
