@@ -170,14 +170,11 @@ pub fn read_type(file: &[u8], at: usize, words: &mut [u32], n: Counts) -> Option
     Some((tail.count, tail.end))
 }
 
-// The number of `let`.
-const LET: u32 = 3;
-
 // A let: "v is the destructured value; with `-` there is no path".
-fn path_fits(kind: u32, value: u32, count: usize) -> bool
-    ensures { result ≡ path_fits kind value count }
+fn path_fits(word: DefinitionWord, value: u32, count: usize) -> bool
+    ensures { result ≡ path_fits word value count }
 {
-    kind != LET || value != 0 || count == 0
+    !matches!(word, DefinitionWord::Let) || value != 0 || count == 0
 }
 
 // D
@@ -208,7 +205,7 @@ pub fn read_definition(
     let word: DefinitionWord = words::word(&file[p..q]);
     let tail = read_tail(file, shapes::definition_shape(word), q, words, n.items)?;
     let kind = shapes::definition_number(word)?;
-    if !path_fits(kind, values::low(tail.c), tail.count) {
+    if !path_fits(word, values::low(tail.c), tail.count) {
         return None;
     }
     let row = records::DEFINITIONS + 12 * n.definitions;
