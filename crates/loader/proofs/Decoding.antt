@@ -172,7 +172,7 @@ module _ (file words t : List ℕ) (first : ℕ) (x : Tail) (low : first ≤ 204
 
   -- ---------------------------------------------------------------- D
 
-  path_is : (v : ℕ) (list : List ℕ) → path_ok (maybe_num (linked (link_by v))) list ≡ path_fits 3 v (length list)
+  path_is : (v : ℕ) (list : List ℕ) → path_ok (maybe_num (linked (link_by v))) list ≡ path_fits DefinitionWord.Let v (length list)
   path_is zero [] = refl
   path_is zero (k ∷ ks) = sym (positive (length ks))
   path_is (suc v) list = λ i. elim (sym (positive v) i) [ true ↦ eqb (length list) 0 | false ↦ true ]
@@ -181,10 +181,10 @@ module _ (file words t : List ℕ) (first : ℕ) (x : Tail) (low : first ≤ 204
   let_of h = DefinitionKind.Let (maybe_num (linked (link_by (parts x.a).low))) (maybe_num (linked (link_by (parts x.b).low))) (maybe_num (linked (link_by (parts x.c).low))) (nums h.list)
 
   -- a let's path
-  path_held : {s : Shape} (h : TailHeld file words s t first x) → path_ok (maybe_num (linked (link_by (parts x.c).low))) (nums h.list) ≡ path_fits 3 (parts x.c).low x.count
-  path_held h = path_is (parts x.c).low (nums h.list) ∙ ap (path_fits 3 (parts x.c).low) (counted h _)
+  path_held : {s : Shape} (h : TailHeld file words s t first x) → path_ok (maybe_num (linked (link_by (parts x.c).low))) (nums h.list) ≡ path_fits DefinitionWord.Let (parts x.c).low x.count
+  path_held h = path_is (parts x.c).low (nums h.list) ∙ ap (path_fits DefinitionWord.Let (parts x.c).low) (counted h _)
 
-  pub definition_kind_row : (w : DefinitionWord) (h : TailHeld file words (definition_shape w) t first x) → (definition_number w ≡ 7 → ⊥) → path_fits (definition_number w) (parts x.c).low x.count ≡ true
+  pub definition_kind_row : (w : DefinitionWord) (h : TailHeld file words (definition_shape w) t first x) → (definition_number w ≡ 7 → ⊥) → path_fits w (parts x.c).low x.count ≡ true
       → RowOf (definition_as w (tail_by file (definition_shape w) x h.list)) kind_items x.count Few (definition_kind_by file words (definition_number w) (parts x.a).low (parts x.b).low (parts x.c).low x.list)
   unfolding definition_as kind_items definition_kind_by option_at
   definition_kind_row DefinitionWord.Fn h known path = record { value = _; is = refl; counts = counted h _; held = λ few. ap (DefinitionKind.Function (parts x.a).low) (fields_held h refl few) }
@@ -203,7 +203,7 @@ module _ (file words t : List ℕ) (first : ℕ) (x : Tail) (low : first ≤ 204
   definition_kind_row DefinitionWord.Loop h known path = record { value = DefinitionKind.LoopVariable; is = refl; counts = sym (h.none refl); held = λ few. refl }
   definition_kind_row DefinitionWord.Other h known path = absurd (known refl)
 
-  pub definition_path_lost : (w : DefinitionWord) (h : TailHeld file words (definition_shape w) t first x) → path_fits (definition_number w) (parts x.c).low x.count ≡ false → definition_as w (tail_by file (definition_shape w) x h.list) ≡ None
+  pub definition_path_lost : (w : DefinitionWord) (h : TailHeld file words (definition_shape w) t first x) → path_fits w (parts x.c).low x.count ≡ false → definition_as w (tail_by file (definition_shape w) x h.list) ≡ None
   unfolding definition_as
   definition_path_lost DefinitionWord.Fn h path = absurd (false≢true (sym path))
   definition_path_lost DefinitionWord.Struct h path = absurd (false≢true (sym path))

@@ -68,12 +68,12 @@ module _ (file t : Text) where
           pub definition_no_kind : definition_number w ≡ 7 → line_from LineWord.D t ≡ None
           definition_no_kind r = definition_read (tail_by file (definition_shape w) x h.list) None h.is (definition_other w (tail_by file (definition_shape w) x h.list) r)
 
-          pub definition_no_path : path_fits (definition_number w) (parts x.c).low x.count ≡ false → line_from LineWord.D t ≡ None
+          pub definition_no_path : path_fits w (parts x.c).low x.count ≡ false → line_from LineWord.D t ≡ None
           definition_no_path r =
               definition_read (tail_by file (definition_shape w) x h.list) None h.is (definition_path_lost file words' (drop q file) n.items x low w h r)
 
           module _ {words words₃ : List ℕ} (fine : Fine file words n) (room : HasRoom LineWord.D n) (known : definition_number w ≡ 7 → ⊥)
-              (path : path_fits (definition_number w) (parts x.c).low x.count ≡ true) (behind : Behind n.items words words')
+              (path : path_fits w (parts x.c).low x.count ≡ true) (behind : Behind n.items words words')
               (put : Put words' (definition_place n.definitions)
               (definition_number w ∷ scope.low ∷ name.low ∷ start.low ∷ end.low ∷ full_start.low ∷ full_end.low ∷ (parts x.a).low ∷ (parts x.b).low ∷ (parts x.c).low ∷ x.list ∷ 0 ∷ []) words₃) where
             kept : TailHeld file words₃ (definition_shape w) (drop q file) n.items x

@@ -1,8 +1,8 @@
 -- What a store leaves: the rows that are counted. Assumes nothing.
 use Prim.Native.Nat.{ℕ, ◌+◌, ◌≤◌, ◌<◌}
-use mathlib.Core.Path.{◌≡◌, refl, sym, ap, subst, ◌∙◌}
+use mathlib.Core.Path.{◌≡◌, refl, sym, subst, ◌∙◌}
 use mathlib.Core.Logic.{inl, inr, ⊎_elim}
-use mathlib.Core.List.{List, [], ◌∷◌}
+use mathlib.Core.List.{List}
 use native.Mathlib.Omega.{arith}
 use lib.ListN.{length}
 use Rattle.std.specs.Prelude.{Option, None, Some, if◌then◌else◌}
@@ -150,21 +150,9 @@ module _ {file words : List ℕ} (n : Counts) (fine : Fine file words n) where
   pub question_apart : HasRoom LineWord.Q n → Apart n (question_place n.questions) 4
   question_apart room = omega (arith, fine, room)
 
--- a row's values, known by what they are equal to: the first, the second of two, the fourth of four, and the eleventh
-module _ {words words' : List ℕ} {at : ℕ} where
-  pub put_first : {k k' : ℕ} {rest : List ℕ} → k ≡ k' → Put words at (k ∷ rest) words' → Put words at (k' ∷ rest) words'
-  put_first {rest = rest} e p = subst (λ v. Put words at v words') (ap (λ j. j ∷ rest) e) p
-
-  pub put_second : {a b b' : ℕ} → b ≡ b' → Put words at (a ∷ b ∷ []) words' → Put words at (a ∷ b' ∷ []) words'
-  put_second {a} e p = subst (λ v. Put words at v words') (λ i. a ∷ e i ∷ []) p
-
-  pub put_fourth : {a b d v v' : ℕ} → v ≡ v' → Put words at (a ∷ b ∷ d ∷ v ∷ []) words' → Put words at (a ∷ b ∷ d ∷ v' ∷ []) words'
-  put_fourth {a} {b} {d} e p = subst (λ u. Put words at u words') (λ i. a ∷ b ∷ d ∷ e i ∷ []) p
-
-  pub put_eleventh : {a b d e f g h j k l v v' : ℕ} → v ≡ v' → Put words at (a ∷ b ∷ d ∷ e ∷ f ∷ g ∷ h ∷ j ∷ k ∷ l ∷ v ∷ []) words'
-      → Put words at (a ∷ b ∷ d ∷ e ∷ f ∷ g ∷ h ∷ j ∷ k ∷ l ∷ v' ∷ []) words'
-  put_eleventh {a} {b} {d} {e} {f} {g} {h} {j} {k} {l} same p =
-      subst (λ u. Put words at u words') (λ i. a ∷ b ∷ d ∷ e ∷ f ∷ g ∷ h ∷ j ∷ k ∷ l ∷ same i ∷ []) p
+-- a row's values, known by what they are equal to
+pub put_same : {words words' : List ℕ} {at : ℕ} {values values' : List ℕ} → values ≡ values' → Put words at values words' → Put words at values' words'
+put_same {words} {words'} {at} e p = subst (λ v. Put words at v words') e p
 
 -- a word's number, where the word is one of the table's, and where it is not
 module _ (other n : ℕ) (r : Option ℕ) (is : r ≡ known other n) where

@@ -7,6 +7,7 @@ use Rattle.model.specs.Limits.{max_items}
 use Rattle.format.specs.declared.Kind.{Kind}
 use Rattle.format.specs.declared.Shape.{Shape}
 use Rattle.format.specs.declared.ScopeWord.{ScopeWord}
+use Rattle.format.specs.declared.DefinitionWord.{DefinitionWord}
 use Rattle.format.specs.declared.LineWord.{LineWord}
 use Rattle.format.specs.Tails as tails
 use Rattle.format.specs.Words.{origin_word_of}
@@ -76,10 +77,16 @@ scope_fits parent ScopeWord.Block = not (eqb parent 0)
 scope_fits parent ScopeWord.Loop = not (eqb parent 0)
 scope_fits parent ScopeWord.Other = false
 
--- a let without a destructured value has no path: the kind's number, the value's word, how many items the path has
-abbrev pub path_fits : ℕ → ℕ → ℕ → Bool
-path_fits kind value count =
-    elim (eqb kind 3) [ true ↦ elim (eqb value 0) [ true ↦ eqb count 0 | false ↦ true ] | false ↦ true ]
+-- a let without a destructured value has no path: the word, the value's word, how many items the path has
+abbrev pub path_fits : DefinitionWord → ℕ → ℕ → Bool
+path_fits DefinitionWord.Fn value count = true
+path_fits DefinitionWord.Struct value count = true
+path_fits DefinitionWord.Const value count = true
+path_fits DefinitionWord.Let value count = elim (eqb value 0) [ true ↦ eqb count 0 | false ↦ true ]
+path_fits DefinitionWord.Param value count = true
+path_fits DefinitionWord.Use value count = true
+path_fits DefinitionWord.Loop value count = true
+path_fits DefinitionWord.Other value count = true
 
 -- ------------------------------------------------------------------ the origin of an expression
 

@@ -55,9 +55,9 @@ fn item_words(file: &[u8], listed: Listed, at: usize) -> Option<(u32, u32, usize
     let (a, ea) = values::slot_words(file, first_kind(listed), at)?;
     let (b, eb) = values::slot_words(file, second_kind(listed), ea)?;
     if is_named(listed) {
-        return Some(((b % values::HIGH) as u32, (a % values::HIGH) as u32, eb));
+        return Some((values::low(b), values::low(a), eb));
     }
-    Some(((a % values::HIGH) as u32, 0, eb))
+    Some((values::low(a), 0, eb))
 }
 
 // An item past the last is read but not written: the form of a line is judged before the limit.

@@ -6,7 +6,6 @@ ghost use Rattle.records.specs.Promises.{Put};
 ghost use Rattle.loader.specs.State.{Fine, HasRoom};
 ghost use Rattle.loader.specs.Lines.{TailPut, is_size, last_word, scope_fits, path_fits, OriginIs, LinePut};
 
-use crate::values::HIGH;
 use crate::{items, shapes, values};
 use format::{
     DefinitionWord, Kind, NodeWord, OriginWord, QuestionWord, ScopeWord, Shape, TypeWord,
@@ -79,9 +78,9 @@ fn last_word(shape: Shape, tail: Tail) -> u32
         return tail.list;
     }
     if is_size(shape.b) {
-        return (tail.b / HIGH) as u32;
+        return values::high(tail.b);
     }
-    (tail.c % HIGH) as u32
+    values::low(tail.c)
 }
 
 // ------------------------------------------------------------------ rows
@@ -107,7 +106,7 @@ pub fn read_module(file: &[u8], at: usize, words: &mut [u32], n: Counts) -> Opti
         words,
         row,
         &[
-            (tail.a % HIGH) as u32,
+            values::low(tail.a),
             n.scopes as u32,
             n.types as u32,
             n.definitions as u32,
@@ -137,13 +136,13 @@ pub fn read_scope(file: &[u8], at: usize, words: &mut [u32], n: Counts) -> Optio
     let (p, q) = fields::word_here(file, e)?;
     let word: ScopeWord = words::word(&file[p..q]);
     let tail = read_tail(file, shapes::bare(), q, words, n.items)?;
-    if !scope_fits((parent % HIGH) as u32, word) {
+    if !scope_fits(values::low(parent), word) {
         return None;
     }
     put(
         words,
         records::SCOPES + 2 * n.scopes,
-        &[(parent % HIGH) as u32, shapes::scope_number(word)],
+        &[values::low(parent), shapes::scope_number(word)],
     );
     Some((tail.count, tail.end))
 }
@@ -163,22 +162,19 @@ pub fn read_type(file: &[u8], at: usize, words: &mut [u32], n: Counts) -> Option
         records::TYPE_EXPRS + 4 * n.types,
         &[
             kind,
-            (tail.a % HIGH) as u32,
-            (tail.b % HIGH) as u32,
+            values::low(tail.a),
+            values::low(tail.b),
             last_word(shape, tail),
         ],
     );
     Some((tail.count, tail.end))
 }
 
-// The number of `let`.
-const LET: u32 = 3;
-
 // A let: "v is the destructured value; with `-` there is no path".
-fn path_fits(kind: u32, value: u32, count: usize) -> bool
-    ensures { result ≡ path_fits kind value count }
+fn path_fits(word: DefinitionWord, value: u32, count: usize) -> bool
+    ensures { result ≡ path_fits word value count }
 {
-    kind != LET || value != 0 || count == 0
+    !matches!(word, DefinitionWord::Let) || value != 0 || count == 0
 }
 
 // D
@@ -209,7 +205,7 @@ pub fn read_definition(
     let word: DefinitionWord = words::word(&file[p..q]);
     let tail = read_tail(file, shapes::definition_shape(word), q, words, n.items)?;
     let kind = shapes::definition_number(word)?;
-    if !path_fits(kind, (tail.c % HIGH) as u32, tail.count) {
+    if !path_fits(word, values::low(tail.c), tail.count) {
         return None;
     }
     let row = records::DEFINITIONS + 12 * n.definitions;
@@ -218,15 +214,15 @@ pub fn read_definition(
         row,
         &[
             kind,
-            (scope % HIGH) as u32,
-            (name % HIGH) as u32,
-            (name_start % HIGH) as u32,
-            (name_end % HIGH) as u32,
-            (full_start % HIGH) as u32,
-            (full_end % HIGH) as u32,
-            (tail.a % HIGH) as u32,
-            (tail.b % HIGH) as u32,
-            (tail.c % HIGH) as u32,
+            values::low(scope),
+            values::low(name),
+            values::low(name_start),
+            values::low(name_end),
+            values::low(full_start),
+            values::low(full_end),
+            values::low(tail.a),
+            values::low(tail.b),
+            values::low(tail.c),
             tail.list,
             0,
         ],
@@ -248,9 +244,9 @@ pub fn read_question(file: &[u8], at: usize, words: &mut [u32], n: Counts) -> Op
         records::QUESTIONS + 4 * n.questions,
         &[
             kind,
-            (tail.a % HIGH) as u32,
-            (tail.b % HIGH) as u32,
-            (tail.c % HIGH) as u32,
+            values::low(tail.a),
+            values::low(tail.b),
+            values::low(tail.c),
         ],
     );
     Some((tail.count, tail.end))
@@ -266,7 +262,7 @@ fn read_origin(file: &[u8], at: usize) -> Option<(u32, u32, u32, usize)>
     let shape = shapes::origin_shape(word);
     let (link, value, _, e) = values::three_words(file, shape.a, shape.b, Kind::Nothing, q)?;
     let kind = shapes::origin_number(word)?;
-    Some((kind, (link % HIGH) as u32, (value % HIGH) as u32, e))
+    Some((kind, values::low(link), values::low(value), e))
 }
 
 // E
@@ -305,15 +301,15 @@ pub fn read_expression(
         row,
         &[
             node + 256 * origin,
-            (scope % HIGH) as u32,
-            (start % HIGH) as u32,
-            (end % HIGH) as u32,
-            (expected % HIGH) as u32,
-            (definition % HIGH) as u32,
+            values::low(scope),
+            values::low(start),
+            values::low(end),
+            values::low(expected),
+            values::low(definition),
             link,
             value,
-            (tail.a % HIGH) as u32,
-            (tail.b % HIGH) as u32,
+            values::low(tail.a),
+            values::low(tail.b),
             last_word(shape, tail),
         ],
     );

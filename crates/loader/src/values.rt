@@ -2,13 +2,27 @@
 ghost use Rattle.std.specs.Prelude.{◌≡◌, ◌+◌, ◌*◌, ◌≤◌, ◌<◌, length, drop};
 ghost use Rattle.format.specs.Fields.{slot};
 ghost use Rattle.format.specs.Tails.{three};
-ghost use Rattle.loader.specs.Values.{is_link, slot_words_is, three_words_is};
+ghost use Rattle.loader.specs.Values.{parts, is_link, slot_words_is, three_words_is};
 
 use fields::Value;
 use format::Kind;
 
 // A number from here on has a high word.
-pub const HIGH: u64 = 4294967296;
+const HIGH: u64 = 4294967296;
+
+// The low word of a field's words: a remainder by HIGH fits in a word.
+pub fn low(field: u64) -> u32
+    ensures { result ≡ (parts field).low }
+{
+    (field % HIGH) as u32
+}
+
+// The high word: a quotient by HIGH does too, since HIGH * HIGH is where u64 ends.
+pub fn high(field: u64) -> u32
+    ensures { result ≡ (parts field).high }
+{
+    (field / HIGH) as u32
+}
 
 fn is_link(kind: Kind) -> bool
     ensures { result ≡ is_link kind }

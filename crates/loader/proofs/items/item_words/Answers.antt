@@ -1,5 +1,6 @@
 -- `loader::items::item_words` meets its contract. Assumes nothing.
 use mathlib.Core.Path.{◌≡◌, sym, ap, subst, ◌∙◌}
+use Rattle.std.specs.Prelude.{Some}
 use lib.ListN.{drop}
 use Rattle.format.specs.Fields.{slot}
 use Rattle.format.specs.Tails.{first_kind, second_kind}
@@ -19,8 +20,8 @@ returns-in_err-b c =
 
 pub returns-then-is_named : goal.returns-then-is_named
 returns-then-is_named c =
-    item_with_name c.args.listed c.args.file.now _ (parts c.in_ok-a.a) (parts c.in_ok-b.b) c.in_ok-a.ea c.in_ok-b.eb (words_found c.args.file.now (drop c.args.at c.args.file.now) (first_kind c.args.listed) c.slot_words.result (subst (λ k. slot_words_is k c.args.file.now c.slot_words.result ≡ slot k (drop c.args.at c.args.file.now)) c.first_kind.ensures c.slot_words.ensures) c.in_ok-a.a c.in_ok-a.ea c.in_ok-a.was) (words_found c.args.file.now (drop c.in_ok-a.ea c.args.file.now) (second_kind c.args.listed) c.slot_words-2.result (subst (λ k. slot_words_is k c.args.file.now c.slot_words-2.result ≡ slot k (drop c.in_ok-a.ea c.args.file.now)) c.second_kind.ensures c.slot_words-2.ensures) c.in_ok-b.b c.in_ok-b.eb c.in_ok-b.was) (sym c.is_named.ensures ∙ c.if-is_named.true)
+    (λ i. item_words_is c.args.listed c.args.file.now (Some (c.low.ensures i, c.low-then-is_named.ensures i, c.in_ok-b.eb))) ∙ item_with_name c.args.listed c.args.file.now _ (parts c.in_ok-a.a) (parts c.in_ok-b.b) c.in_ok-a.ea c.in_ok-b.eb (words_found c.args.file.now (drop c.args.at c.args.file.now) (first_kind c.args.listed) c.slot_words.result (subst (λ k. slot_words_is k c.args.file.now c.slot_words.result ≡ slot k (drop c.args.at c.args.file.now)) c.first_kind.ensures c.slot_words.ensures) c.in_ok-a.a c.in_ok-a.ea c.in_ok-a.was) (words_found c.args.file.now (drop c.in_ok-a.ea c.args.file.now) (second_kind c.args.listed) c.slot_words-2.result (subst (λ k. slot_words_is k c.args.file.now c.slot_words-2.result ≡ slot k (drop c.in_ok-a.ea c.args.file.now)) c.second_kind.ensures c.slot_words-2.ensures) c.in_ok-b.b c.in_ok-b.eb c.in_ok-b.was) (sym c.is_named.ensures ∙ c.if-is_named.true)
 
 pub returns : goal.returns
 returns c =
-    item_plain c.args.listed c.args.file.now _ (parts c.in_ok-a.a) (parts c.in_ok-b.b) c.in_ok-a.ea c.in_ok-b.eb (words_found c.args.file.now (drop c.args.at c.args.file.now) (first_kind c.args.listed) c.slot_words.result (subst (λ k. slot_words_is k c.args.file.now c.slot_words.result ≡ slot k (drop c.args.at c.args.file.now)) c.first_kind.ensures c.slot_words.ensures) c.in_ok-a.a c.in_ok-a.ea c.in_ok-a.was) (words_found c.args.file.now (drop c.in_ok-a.ea c.args.file.now) (second_kind c.args.listed) c.slot_words-2.result (subst (λ k. slot_words_is k c.args.file.now c.slot_words-2.result ≡ slot k (drop c.in_ok-a.ea c.args.file.now)) c.second_kind.ensures c.slot_words-2.ensures) c.in_ok-b.b c.in_ok-b.eb c.in_ok-b.was) (sym c.is_named.ensures ∙ c.if-is_named.false)
+    (λ i. item_words_is c.args.listed c.args.file.now (Some (c.low-2.ensures i, 0, c.in_ok-b.eb))) ∙ item_plain c.args.listed c.args.file.now _ (parts c.in_ok-a.a) (parts c.in_ok-b.b) c.in_ok-a.ea c.in_ok-b.eb (words_found c.args.file.now (drop c.args.at c.args.file.now) (first_kind c.args.listed) c.slot_words.result (subst (λ k. slot_words_is k c.args.file.now c.slot_words.result ≡ slot k (drop c.args.at c.args.file.now)) c.first_kind.ensures c.slot_words.ensures) c.in_ok-a.a c.in_ok-a.ea c.in_ok-a.was) (words_found c.args.file.now (drop c.in_ok-a.ea c.args.file.now) (second_kind c.args.listed) c.slot_words-2.result (subst (λ k. slot_words_is k c.args.file.now c.slot_words-2.result ≡ slot k (drop c.in_ok-a.ea c.args.file.now)) c.second_kind.ensures c.slot_words-2.ensures) c.in_ok-b.b c.in_ok-b.eb c.in_ok-b.was) (sym c.is_named.ensures ∙ c.if-is_named.false)

@@ -1,5 +1,6 @@
 -- `loader::rows::read_expression` meets its contract. Assumes nothing.
 use mathlib.Core.Path.{sym, ap, subst, ◌∙◌}
+use mathlib.Core.List.{[], ◌∷◌}
 use Prim.Native.Nat.{◌+◌, ◌*◌}
 use lib.ListN.{drop}
 use Rattle.format.specs.declared.Kind.{Kind}
@@ -7,7 +8,7 @@ use Rattle.fields.specs.Held.{word_is}
 use Rattle.loader.specs.Values.{parts}
 use Rattle.loader.specs.Lines.{OriginIs, last_word}
 use Rattle.loader.proofs.Tailing.{three_found, three_lost, tail_of, tail_none, tail_put_as}
-use Rattle.loader.proofs.Leaving.{number_lost, number_kept, line_lost, left_self, behind_left, put_first, put_eleventh}
+use Rattle.loader.proofs.Leaving.{number_lost, number_kept, line_lost, left_self, behind_left, put_same}
 use Rattle.loader.proofs.ExpressionLines.{expression_no_first, expression_no_second, expression_no_origin, expression_no_word, expression_no_tail, expression_no_kind, expression_put_as}
 use Rattle.loader.proofs.rows.read_expression.Goals as goal
 
@@ -40,4 +41,4 @@ returns-in_err-node c =
 pub returns : goal.returns
 returns c =
     let tp = tail_put_as {words' = c.read_tail.new.words} c.node_shape-shape.ensures c.read_tail.ensures in
-    expression_put_as c.args.file.now _ (parts c.in_ok-scope.scope) (parts c.in_ok-scope.start) (parts c.in_ok-scope.end) c.in_ok-scope.e (three_found c.args.file.now _ Kind.Number Kind.Position Kind.Position c.three_words.result c.three_words.ensures c.in_ok-scope.scope c.in_ok-scope.start c.in_ok-scope.end c.in_ok-scope.e c.in_ok-scope.was) (parts c.in_ok-expected.expected) (parts c.in_ok-expected.definition) (parts c.in_ok-expected.field-0-2) c.in_ok-expected.f (three_found c.args.file.now _ Kind.MaybeNumber Kind.MaybeNumber Kind.Nothing c.three_words-2.result c.three_words-2.ensures c.in_ok-expected.expected c.in_ok-expected.definition c.in_ok-expected.field-0-2 c.in_ok-expected.f c.in_ok-expected.was) c.in_ok-origin.origin c.in_ok-origin.link c.in_ok-origin.value c.in_ok-origin.g (subst (OriginIs c.args.file.now (drop c.in_ok-expected.f c.args.file.now)) c.in_ok-origin.was c.read_origin.ensures) _ c.in_ok-p.q (sym c.word_here.ensures.is ∙ ap (word_is c.args.file.now) c.in_ok-p.was) c.word-word.result c.word-word.ensures c.args.n c.in_ok-tail.tail (tail_of c.args.file.now _ _ _ c.args.n.items tp.tail c.in_ok-tail.tail c.in_ok-tail.was) c.requires.0 c.requires.1 (number_kept 16 _ _ c.node_number.ensures c.in_ok-node.node c.in_ok-node.was).1 tp.behind (put_first (ap (λ k. k + 256 * c.in_ok-origin.origin) (number_kept 16 _ _ c.node_number.ensures c.in_ok-node.node c.in_ok-node.was).0) (put_eleventh (c.last_word.ensures ∙ ap (λ k. last_word k c.in_ok-tail.tail) c.node_shape-shape.ensures) c.put.ensures))
+    expression_put_as c.args.file.now _ (parts c.in_ok-scope.scope) (parts c.in_ok-scope.start) (parts c.in_ok-scope.end) c.in_ok-scope.e (three_found c.args.file.now _ Kind.Number Kind.Position Kind.Position c.three_words.result c.three_words.ensures c.in_ok-scope.scope c.in_ok-scope.start c.in_ok-scope.end c.in_ok-scope.e c.in_ok-scope.was) (parts c.in_ok-expected.expected) (parts c.in_ok-expected.definition) (parts c.in_ok-expected.field-0-2) c.in_ok-expected.f (three_found c.args.file.now _ Kind.MaybeNumber Kind.MaybeNumber Kind.Nothing c.three_words-2.result c.three_words-2.ensures c.in_ok-expected.expected c.in_ok-expected.definition c.in_ok-expected.field-0-2 c.in_ok-expected.f c.in_ok-expected.was) c.in_ok-origin.origin c.in_ok-origin.link c.in_ok-origin.value c.in_ok-origin.g (subst (OriginIs c.args.file.now (drop c.in_ok-expected.f c.args.file.now)) c.in_ok-origin.was c.read_origin.ensures) _ c.in_ok-p.q (sym c.word_here.ensures.is ∙ ap (word_is c.args.file.now) c.in_ok-p.was) c.word-word.result c.word-word.ensures c.args.n c.in_ok-tail.tail (tail_of c.args.file.now _ _ _ c.args.n.items tp.tail c.in_ok-tail.tail c.in_ok-tail.was) c.requires.0 c.requires.1 (number_kept 16 _ _ c.node_number.ensures c.in_ok-node.node c.in_ok-node.was).1 tp.behind (put_same (λ i. ((number_kept 16 _ _ c.node_number.ensures c.in_ok-node.node c.in_ok-node.was).0 i + 256 * c.in_ok-origin.origin) ∷ c.low.ensures i ∷ c.low-2.ensures i ∷ c.low-3.ensures i ∷ c.low-4.ensures i ∷ c.low-5.ensures i ∷ c.in_ok-origin.link ∷ c.in_ok-origin.value ∷ c.low-6.ensures i ∷ c.low-7.ensures i ∷ (c.last_word.ensures ∙ ap (λ k. last_word k c.in_ok-tail.tail) c.node_shape-shape.ensures) i ∷ []) c.put.ensures)

@@ -1,6 +1,7 @@
 -- `loader::rows::read_module` meets its contract. Assumes nothing.
+use mathlib.Core.List.{[], ◌∷◌}
 use Rattle.loader.proofs.Tailing.{tail_of, tail_none, tail_put_as}
-use Rattle.loader.proofs.Leaving.{line_lost, behind_left}
+use Rattle.loader.proofs.Leaving.{line_lost, behind_left, put_same}
 use Rattle.loader.proofs.ScopeLines.{module_no_tail, module_put_as}
 use Rattle.loader.proofs.rows.read_module.Goals as goal
 
@@ -12,4 +13,4 @@ returns-in_err-tail c =
 pub returns : goal.returns
 returns c =
     let tp = tail_put_as {words' = c.read_tail.new.words} c.module_shape.ensures c.read_tail.ensures in
-    module_put_as c.args.file.now _ c.args.n c.in_ok-tail.tail (tail_of c.args.file.now _ _ _ c.args.n.items tp.tail c.in_ok-tail.tail c.in_ok-tail.was) c.requires.0 c.requires.1 tp.behind c.put.ensures
+    module_put_as c.args.file.now _ c.args.n c.in_ok-tail.tail (tail_of c.args.file.now _ _ _ c.args.n.items tp.tail c.in_ok-tail.tail c.in_ok-tail.was) c.requires.0 c.requires.1 tp.behind (put_same (λ i. c.low.ensures i ∷ c.args.n.scopes ∷ c.args.n.types ∷ c.args.n.definitions ∷ c.args.n.expressions ∷ 0 ∷ []) c.put.ensures)

@@ -1,8 +1,9 @@
 -- `loader::rows::read_question` meets its contract. Assumes nothing.
 use mathlib.Core.Path.{sym, ap, ◌∙◌}
+use mathlib.Core.List.{[], ◌∷◌}
 use Rattle.fields.specs.Held.{word_is}
 use Rattle.loader.proofs.Tailing.{tail_of, tail_none, tail_put_as}
-use Rattle.loader.proofs.Leaving.{number_lost, number_kept, line_lost, left_self, behind_left, put_first}
+use Rattle.loader.proofs.Leaving.{number_lost, number_kept, line_lost, left_self, behind_left, put_same}
 use Rattle.loader.proofs.QuestionLines.{question_no_word, question_no_tail, question_no_kind, question_put_as}
 use Rattle.loader.proofs.rows.read_question.Goals as goal
 
@@ -23,4 +24,4 @@ returns-in_err-kind c =
 pub returns : goal.returns
 returns c =
     let tp = tail_put_as {words' = c.read_tail.new.words} c.question_shape.ensures c.read_tail.ensures in
-    question_put_as c.args.file.now _ _ c.in_ok-p.q (sym c.word_here.ensures.is ∙ ap (word_is c.args.file.now) c.in_ok-p.was) c.word-word.result c.word-word.ensures c.args.n c.in_ok-tail.tail (tail_of c.args.file.now _ _ _ c.args.n.items tp.tail c.in_ok-tail.tail c.in_ok-tail.was) c.requires.0 c.requires.1 (number_kept 4 _ _ c.question_number.ensures c.in_ok-kind.kind c.in_ok-kind.was).1 tp.behind (put_first (number_kept 4 _ _ c.question_number.ensures c.in_ok-kind.kind c.in_ok-kind.was).0 c.put.ensures)
+    question_put_as c.args.file.now _ _ c.in_ok-p.q (sym c.word_here.ensures.is ∙ ap (word_is c.args.file.now) c.in_ok-p.was) c.word-word.result c.word-word.ensures c.args.n c.in_ok-tail.tail (tail_of c.args.file.now _ _ _ c.args.n.items tp.tail c.in_ok-tail.tail c.in_ok-tail.was) c.requires.0 c.requires.1 (number_kept 4 _ _ c.question_number.ensures c.in_ok-kind.kind c.in_ok-kind.was).1 tp.behind (put_same (λ i. (number_kept 4 _ _ c.question_number.ensures c.in_ok-kind.kind c.in_ok-kind.was).0 i ∷ c.low.ensures i ∷ c.low-2.ensures i ∷ c.low-3.ensures i ∷ []) c.put.ensures)
