@@ -6,7 +6,7 @@ usage: tools/word_maps.py             (after a word was added to a table, or the
        tools/word_maps.py --factors   (the factors below 64 under which no two words of a table, those to come included, have the same hash)
 
 A table is a byte string of cells of nine bytes, a word's length, its bytes and zeros; the byte string behind it is its map. The hash is
-`hash_of` of crates/words/specs/Packed.antt, from which its three factors are read; crates/words/src/lib.rt and proofs/hash have the same. That a
+`hash_of` of crates/words/specs/Packed.antt, from which its three factors are read; crates/words/src/lib.rt has the same. That a
 map leads each of the definition's words to its place is proved where the table is used, so a wrong map is refused by the check as well; this
 tool makes right ones.
 """

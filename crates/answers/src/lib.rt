@@ -114,6 +114,8 @@ fn answer_asked(
     type_table::start(types);
     let said = type_resolution::resolve_asked(index, types, demands, asked);
     demands::clear(demands);
+    // Two matches, here and below, and no pattern within a pattern: tried, and what the inner value is stands in its goal behind a projection of the outer
+    // one, from which the proof didn't get back to it.
     match said {
         Ok(said) => match said {
             Some(t) => answer_typed(index.file, types, t, asked, out),

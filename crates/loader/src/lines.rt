@@ -25,6 +25,7 @@ fn has_line_room(word: LineWord, n: Counts) -> bool
     }
 }
 
+// A number, as in the definition, since `in_place` asks which stages come before.
 fn stage_of(word: LineWord) -> u32
     ensures { result ≡ stage_of word }
 {

@@ -1,10 +1,9 @@
 // The five tracked functions of type_resolution.rs, over the record words, the table of types and the list of open demands.
 // They call each other in a cycle; each of the five opens its demand first, so the number of free places falls.
-// They are `resolve_ast_type`, `definition_semantic_type`, `struct_semantic_data`, `function_semantic_signature` and `expression_semantic_type` there; a
-// cycle's modules are named after all its members, and a library carries checked modules only under names of at most 249 bytes, so here they are
-// `ast_type`, `def_type`, `struct_data`, `fn_signature` and `expr_type`. A helper for one kind of node has that node's keyword in the index file
-// (`lit`, `un`, `bin`, `call`, `member`, `index`, `tuple`, `tidx`, `arr`, `rep`, `new`), one for a type expression likewise (`tup`, since `tuple` is
-// the node's, and `array`).
+// They are `resolve_ast_type`, `definition_semantic_type`, `struct_semantic_data`, `function_semantic_signature` and `expression_semantic_type` there. Here
+// they are `ast_type`, `def_type`, `struct_data`, `fn_signature` and `expr_type`: short, since every goal of the cycle begins with the name of its
+// member. A helper for one kind of node has that node's keyword in the index file (`lit`, `un`, `bin`, `call`, `member`, `index`, `tuple`, `tidx`,
+// `arr`, `rep`, `new`), one for a type expression likewise (`tup`, since `tuple` is the node's, and `array`).
 // Each member is given the index, the two lent buffers, how many demands are open, and the module. The buffers are two parameters and no struct of two
 // `&mut` fields: behind a `&mut` of such a struct a shared reborrow of a field leaves nothing known of what the field holds but its length, so the
 // promises of the reads (`type_table`) would say nothing of the words that are changed next.

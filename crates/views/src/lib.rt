@@ -22,7 +22,7 @@ use records::{
     Name, Question, TypeExpr,
 };
 
-// What an answer line is about: module, expression, context; module, definition; module, T, scope; module, position.
+// What an answer line is about, which isn't what a question of the file is (`Question`): a question asks a list of these. Module, expression, context; module, definition; module, T, scope; module, position.
 #[derive(Clone, Copy)]
 pub enum Asked {
     Expr(u32, ExpressionId, Option<u32>),
