@@ -162,8 +162,8 @@ fn check_file(file: &[u8], words: &mut [u32], out: &mut [u8]) -> usize
     put_line(loaded, words, out)
 }
 
-// Reads standard input until the space is full or the input ends, and says how many bytes stand at its start. The space is fixed memory: std's reading to
-// the end would take a Vec. (`resolve` has the same three functions: a library for two programs would be as long.)
+// Reads standard input until the space is full or the input ends, and says how many bytes stand at its start. How many reads that takes is known only when
+// the last is done, so no `for` goes over them. The space is fixed memory: std's reading to the end would take a Vec. (`resolve` has the same three functions: a library for two programs would be as long.)
 fn read_input(rt: HostRuntime, space: &mut [u8]) -> std::io::Result<usize>
     ensures { IfOk result (λ n. n ≤ length space.new) }
 {

@@ -75,8 +75,8 @@ fn next_part(
     }
 }
 
-// Reads standard input until the space is full or the input ends, and says how many bytes stand at its start. The space is fixed memory: std's reading to
-// the end would take a Vec. (`check_index` has the same three functions: a library for two programs would be as long.)
+// Reads standard input until the space is full or the input ends, and says how many bytes stand at its start. How many reads that takes is known only when
+// the last is done, so no `for` goes over them. The space is fixed memory: std's reading to the end would take a Vec. (`check_index` has the same three functions: a library for two programs would be as long.)
 fn read_input(rt: HostRuntime, space: &mut [u8]) -> io::Result<usize>
     ensures { IfOk result (λ n. n ≤ length space.new) }
 {
@@ -94,7 +94,7 @@ fn read_input(rt: HostRuntime, space: &mut [u8]) -> io::Result<usize>
 
 // Prints the parts one behind the other. Each is the definition's (`PartIs`), and all together are `resolve` of the file (`CallsResolve`, `CallsEnd`).
 // That they are written in this order is to be read here: what is written is no value of the logic, and `write_all` promises nothing of it.
-// A read or a write that fails ends the program with its error.
+// A read or a write that fails ends the program with its error. Which part is the last is known only when it is there, so no `for` goes over them.
 fn main(rt: HostRuntime) -> io::Result<()> {
     let mut space = input();
     let n = read_input(rt, &mut space)?;
