@@ -1,53 +1,52 @@
 -- Names and `-`, from a position in the file. Assumes nothing.
-use Prim.Native.Nat.{ℕ, ◌+◌, ◌≤◌, ◌<◌, max}
+use Prim.Native.Nat.{ℕ, suc, ◌+◌, ◌≤◌, ◌<◌}
 use mathlib.Core.Path.{◌≡◌, refl, sym, ap, ◌∙◌}
 use mathlib.Core.List.{[], ◌∷◌}
-use mathlib.Core.Bool.{Bool, true, false, not, ◌&&◌, false≢true}
+use mathlib.Core.Bool.{Bool, true, false, not, ◌&&◌, ◌||◌, false≢true}
 use Rattle.std.specs.Prelude.{Option, None, Some}
 use native.Mathlib.Omega.{arith}
-use lib.ListN.{length, take, drop, get_or, length-drop, drop_of_length-le}
+use lib.ListN.{length, take, drop, get_or, length-drop}
 use lib.Seq.{drop-drop}
-use lib.Dec.{leb}
-use borrow.Author.Tests.{le-leb, lt-leb, eq-eqb, ne_eqb, leb-true, leb-false}
+use lib.Dec.{eqb, leb, ltb}
+use borrow.Author.Tests.{le-leb, lt-leb, eq-eqb, ne_eqb, leb-true, leb-false, eqb-true, le-ltb}
+use Rattle.model.proofs.Tests.{lt-ltb}
 use Rattle.model.specs.Common.{Text, is_empty, eq_numbers}
 use Rattle.model.proofs.Tests.{eq_numbers_sound}
 use Rattle.format.specs.declared.Kind.{Kind}
 use Rattle.format.specs.Fields.{stops, field_of, behind, only_if, is_dash, all_visible, is_name, Value, absent, text, numbered, number_of, name_value, or_dash, value_of, reading}
 use Rattle.records.specs.Layout.{bytes_at}
 use Rattle.records.proofs.Packing.{each_part}
-use Rattle.words.proofs.Bytes.{here, field_stop, field_more}
+use Rattle.words.specs.Ends.{until, begins}
+use Rattle.words.proofs.Bytes.{here, field_stop, field_more, field_out, begins_in}
 use Rattle.fields.specs.Held.{may_be_absent, field_as, visible_run}
 use Rattle.fields.proofs.Numbers.{behind_at}
-
-pub not_yes : (b : Bool) → not b ≡ true → b ≡ false
-not_yes true q = absurd (false≢true q)
-not_yes false q = refl
-
-pub not_no : (b : Bool) → not b ≡ false → b ≡ true
-not_no true q = refl
-not_no false q = absurd (false≢true (sym q))
 
 -- ------------------------------------------------------------------ bytes from 21 to 7E
 
 abbrev visible : ℕ → Bool
 visible b = leb 33 b && leb b 126
 
-module _ (s : Text) (e : ℕ) where
-  pub run_low : e < length s → get_or s e 0 < 33 → visible_run (drop e s) ≡ []
-  unfolding visible_run
-  run_low h k = rw (here s e h, lt-leb 33 (get_or s e 0) k, visible_run)
+-- what the code asks of a byte
+abbrev pub hidden : ℕ → Bool
+hidden b = ltb b 33 || ltb 126 b
 
-  pub run_high : e < length s → 33 ≤ get_or s e 0 → 126 < get_or s e 0 → visible_run (drop e s) ≡ []
-  unfolding visible_run
-  run_high h k l = rw (here s e h, le-leb 33 (get_or s e 0) k, lt-leb (get_or s e 0) 126 l, visible_run)
+hidden_is : (b : ℕ) → hidden b ≡ not (visible b)
+hidden_is b = by (leb 33 b) (leb b 126) refl refl
+  where
+    by : (low high : Bool) → leb 33 b ≡ low → leb b 126 ≡ high → hidden b ≡ not (visible b)
+    by true true p q = rw (p, q, le-ltb b 33 (leb-true 33 b p), le-ltb 126 b (leb-true b 126 q))
+    by true false p q = rw (p, q, le-ltb b 33 (leb-true 33 b p), lt-ltb 126 b (leb-false b 126 q))
+    by false high p q = rw (p, lt-ltb b 33 (leb-false 33 b p))
 
-  pub run_more : e < length s → 33 ≤ get_or s e 0 → get_or s e 0 ≤ 126 → visible_run (drop e s) ≡ get_or s e 0 ∷ visible_run (drop (e + 1) s)
-  unfolding visible_run
-  run_more h k l = rw (here s e h, le-leb 33 (get_or s e 0) k, le-leb (get_or s e 0) 126 l, visible_run)
-
-  pub run_out : length s ≤ e → visible_run (drop e s) ≡ []
-  unfolding visible_run
-  run_out h = rw (drop_of_length-le s h)
+-- the visible bytes are those up to the first that isn't
+pub run_until : (t : Text) → until hidden t ≡ visible_run t
+unfolding until visible_run
+run_until [] = refl
+run_until (b ∷ t) = (λ i. elim (hidden_is b i) [ true ↦ [] | false ↦ b ∷ run_until t i ]) ∙ by (visible b)
+  where
+    by : (v : Bool) → ◌≡◌ {A = Text} (elim (not v) [ true ↦ [] | false ↦ b ∷ visible_run t ]) (elim v [ true ↦ b ∷ visible_run t | false ↦ [] ])
+    by true = refl
+    by false = refl
 
 -- a visible byte ends no field
 visible_goes_on : (b : ℕ) → visible b ≡ true → stops b ≡ false
@@ -196,25 +195,36 @@ module _ (s : Text) (p : ℕ) where
 -- ------------------------------------------------------------------ `-`
 
 module _ (s : Text) (e : ℕ) where
-  pub dash_out : field_of (drop e s) ≡ [] → false ≡ is_dash (field_of (drop e s))
+  dash_out : field_of (drop e s) ≡ [] → false ≡ is_dash (field_of (drop e s))
   unfolding eq_numbers
   dash_out q = ap is_dash (sym q)
 
-  pub dash_other : e < length s → (get_or s e 0 ≡ 45 → ⊥) → false ≡ is_dash (field_of (drop e s))
+  dash_other : e < length s → eqb (get_or s e 0) 45 ≡ false → false ≡ is_dash (field_of (drop e s))
   unfolding eq_numbers
   dash_other h n = by (stops (get_or s e 0)) refl
     where
       by : (t : Bool) → stops (get_or s e 0) ≡ t → false ≡ is_dash (field_of (drop e s))
       by true q = dash_out (field_stop s e h q)
-      by false q = sym (ap is_dash (field_more s e h q) ∙ (λ i. elim (ne_eqb (get_or s e 0) 45 n i) [ true ↦ eq_numbers (field_of (drop (e + 1) s)) [] | false ↦ false ]))
+      by false q = sym (ap is_dash (field_more s e h q) ∙ (λ i. elim (n i) [ true ↦ eq_numbers (field_of (drop (e + 1) s)) [] | false ↦ false ]))
 
-  pub dash_by : e < length s → get_or s e 0 ≡ 45 → is_empty (field_of (drop (e + 1) s)) ≡ is_dash (field_of (drop e s))
+  dash_by : e < length s → get_or s e 0 ≡ 45 → is_empty (field_of (drop (e + 1) s)) ≡ is_dash (field_of (drop e s))
   unfolding eq_numbers
   dash_by h z = sym (ap is_dash (field_more s e h (ap stops z)) ∙ (λ i. elim (eq-eqb (get_or s e 0) 45 z i) [ true ↦ eq_numbers (field_of (drop (e + 1) s)) [] | false ↦ false ]) ∙ empty (field_of (drop (e + 1) s)))
     where
       empty : (t : Text) → eq_numbers t [] ≡ is_empty t
       empty [] = refl
       empty (b ∷ t) = refl
+
+  -- a `-` stands here, or another byte or none
+  pub dash_here : begins 45 (drop e s) ≡ true → is_empty (field_of (drop (e + 1) s)) ≡ is_dash (field_of (drop e s))
+  dash_here h = dash_by (begins_in 45 s e h) (eqb-true (get_or s e 0) 45 (sym (ap (begins 45) (here s e (begins_in 45 s e h))) ∙ h))
+
+  pub dash_none : begins 45 (drop e s) ≡ false → false ≡ is_dash (field_of (drop e s))
+  dash_none h = by (leb (suc e) (length s)) refl
+    where
+      by : (q : Bool) → leb (suc e) (length s) ≡ q → false ≡ is_dash (field_of (drop e s))
+      by true t = let inside = leb-true (suc e) (length s) t in dash_other (omega (arith, inside)) (sym (ap (begins 45) (here s e (omega (arith, inside)))) ∙ h)
+      by false f = dash_out (field_out s e (omega (arith, leb-false (suc e) (length s) f)))
 
   -- a field that is `-` has one byte
   pub dash_one : is_dash (field_of (drop e s)) ≡ true → field_of (drop e s) ≡ 45 ∷ []
@@ -272,12 +282,3 @@ module _ (s : Text) (e : ℕ) where
   absent_yes Kind.UnaryOp q = absurd (false≢true q)
   absent_yes Kind.BinaryOp q = absurd (false≢true q)
   absent_yes Kind.Unused q = unused_yes q
-
--- the visible bytes from `from` on have their end behind the text's last byte
-pub run_end_at : (s : Text) (from e : ℕ) → (from ≤ length s → e ≤ length s) → length s ≤ e
-    → e + length (visible_run (drop e s)) ≡ from + length (visible_run (drop from s)) → max from (length s) ≡ from + length (visible_run (drop from s))
-run_end_at s from e within out same = by (leb from (length s)) refl
-  where
-    by : (b : Bool) → leb from (length s) ≡ b → max from (length s) ≡ from + length (visible_run (drop from s))
-    by true t = omega (arith, leb-true from (length s) t, within (leb-true from (length s) t), ap length (run_out s e out))
-    by false f = omega (arith, leb-false from (length s) f, ap length (run_out s from (omega (arith, leb-false from (length s) f))))

@@ -1,22 +1,23 @@
 -- A field by its kind, from a position in the file. Assumes nothing.
-use Prim.Native.Nat.{ℕ, suc, ◌+◌, ◌-◌, ◌≤◌, ◌<◌}
+use Prim.Native.Nat.{ℕ, suc, ◌+◌, ◌-◌, ◌≤◌}
 use mathlib.Core.Path.{◌≡◌, refl, sym, ap, ◌∙◌}
 use mathlib.Core.List.{[], ◌∷◌}
 use mathlib.Core.Bool.{Bool, true, false}
 use Rattle.std.specs.Prelude.{Option, None, Some}
 use native.Mathlib.Omega.{arith}
-use lib.ListN.{length, take, drop, get_or, length-drop, drop_of_length-le}
-use borrow.Author.Tests.{eq-eqb, ne_eqb}
-use Rattle.model.specs.Common.{Text, eq_numbers, first}
+use lib.ListN.{length, take, drop, length-drop}
+use Rattle.model.specs.Common.{Text, let_some, eq_numbers, first}
 use Rattle.format.specs.declared.Kind.{Kind}
 use Rattle.format.specs.Words.{is_keyword, place_in, unary_op_words, binary_op_words}
 use Rattle.format.specs.Fields.{stops, field_of, behind, is_name, plain_number, number_of, absent, numbered, name_value, or_dash, value_of, Read, reading, behind_tab, slot_field, is_nothing, slot}
 use Rattle.words.specs.Packed.{candidate_place}
-use Rattle.words.proofs.Bytes.{here}
+use Rattle.words.specs.Ends.{begins}
+use Rattle.words.proofs.Bytes.{begins_here}
 use Rattle.words.proofs.Tables.{maps, candidate_first}
 use Rattle.format.specs.Lines.{word_here}
 use Rattle.fields.specs.declared.Slot.{Slot}
-use Rattle.fields.specs.Held.{value_is, slot_is, field_as}
+use Rattle.fields.specs.declared.WordRead.{WordRead}
+use Rattle.fields.specs.Held.{value_is, slot_is, word_is, field_as}
 use Rattle.fields.proofs.Numbers.{behind_at}
 
 -- ------------------------------------------------------------------ the bytes of a field
@@ -97,6 +98,17 @@ module _ (t table map : Text) (x : Option Read) (is : x ≡ field_as (λ u. numb
   unfolding field_as value_of
   binary_op_is right = is ∙ ap (λ o. reading (behind t) (numbered o)) (candidate_first table map (field_of t) binary_op_words right)
 
+-- ------------------------------------------------------------------ a tab
+
+tab_none : (t : Text) → begins 9 t ≡ false → behind_tab t ≡ None
+unfolding behind_tab
+tab_none [] h = refl
+tab_none (b ∷ t) h = λ i. elim (h i) [ true ↦ Some t | false ↦ None ]
+
+tab_found : (s : Text) (e : ℕ) → begins 9 (drop e s) ≡ true → behind_tab (drop e s) ≡ Some (drop (e + 1) s)
+unfolding behind_tab
+tab_found s e h = ap behind_tab (begins_here 9 s e h)
+
 -- ------------------------------------------------------------------ a field behind a tab
 
 module _ (k : Kind) (s : Text) (e : ℕ) where
@@ -108,17 +120,14 @@ module _ (k : Kind) (s : Text) (e : ℕ) where
   unfolding slot
   slot_some q = λ i. elim (q i) [ true ↦ Some (record { value = absent; rest = drop e s }) | false ↦ slot_field k (drop e s) ]
 
-  pub slot_out : is_nothing k ≡ false → length s ≤ e → slot k (drop e s) ≡ None
-  unfolding slot_field behind_tab
-  slot_out q h = slot_some q ∙ rw (drop_of_length-le s h)
+  -- no tab stands here, or one does
+  pub slot_no_tab : is_nothing k ≡ false → begins 9 (drop e s) ≡ false → slot k (drop e s) ≡ None
+  unfolding slot_field
+  slot_no_tab q h = slot_some q ∙ ap (λ o. let_some o None λ u. reading (behind u) (value_of k (field_of u))) (tab_none (drop e s) h)
 
-  pub slot_no_tab : is_nothing k ≡ false → e < length s → (get_or s e 0 ≡ 9 → ⊥) → slot k (drop e s) ≡ None
-  unfolding slot_field behind_tab
-  slot_no_tab q h n = slot_some q ∙ rw (here s e h, ne_eqb (get_or s e 0) 9 n, behind_tab)
-
-  pub slot_is_field : is_nothing k ≡ false → e < length s → get_or s e 0 ≡ 9 → slot k (drop e s) ≡ field_as (value_of k) (drop (e + 1) s)
-  unfolding slot_field behind_tab field_as
-  slot_is_field q h n = slot_some q ∙ rw (here s e h, eq-eqb (get_or s e 0) 9 n, behind_tab)
+  pub slot_is_field : is_nothing k ≡ false → begins 9 (drop e s) ≡ true → slot k (drop e s) ≡ field_as (value_of k) (drop (e + 1) s)
+  unfolding slot_field field_as
+  slot_is_field q h = slot_some q ∙ ap (λ o. let_some o None λ u. reading (behind u) (value_of k (field_of u))) (tab_found s e h)
 
 -- ------------------------------------------------------------------ what the definition reads where the code has read a field, and where it has not
 
@@ -126,31 +135,34 @@ module _ (s t : Text) (k : Kind) (r : Option Slot) (q : slot_is s r ≡ slot k t
   pub slot_found : (x : Slot) → r ≡ Some x → slot k t ≡ Some (record { value = value_is s x.value; rest = drop x.end s })
   slot_found x h = sym q ∙ ap (slot_is s) h
 
-  pub slot_lost : r ≡ None → slot k t ≡ None
-  slot_lost h = sym q ∙ ap (slot_is s) h
-
 -- ------------------------------------------------------------------ a word behind a tab
 
-module _ (s : Text) (e : ℕ) where
-  pub word_out : length s ≤ e → word_here (drop e s) ≡ None
-  unfolding word_here behind_tab
-  word_out h = rw (drop_of_length-le s h)
+module _ {A : Type 0} (word_of : Text → Option A) (s : Text) (e : ℕ) where
+  pub word_no_tab : begins 9 (drop e s) ≡ false → word_here word_of (drop e s) ≡ None
+  unfolding word_here
+  word_no_tab h = ap (λ o. let_some o None λ u. let_some (word_of (field_of u)) None λ w. Some (record { word = w; rest = behind u })) (tab_none (drop e s) h)
 
-  pub word_no_tab : e < length s → (get_or s e 0 ≡ 9 → ⊥) → word_here (drop e s) ≡ None
-  unfolding word_here behind_tab
-  word_no_tab h n = rw (here s e h, ne_eqb (get_or s e 0) 9 n, behind_tab)
-
-  pub word_found : (x : ℕ) → e < length s → get_or s e 0 ≡ 9 → x ≡ e + 1 + length (field_of (drop (e + 1) s))
-      → word_here (drop e s) ≡ Some (record { word = take (x - (e + 1)) (drop (e + 1) s); rest = drop x s })
-  unfolding word_here behind_tab
-  word_found x h n q =
-      behind_the_tab
-      ∙ sym
-      (ap (λ m. Some (record { word = take m (drop (e + 1) s); rest = drop x s })) same_length
-      ∙ (λ i. Some (record { word = field_take (drop (e + 1) s) i; rest = (ap (λ m. drop m s) q ∙ sym (behind_at s (e + 1))) i })))
+  -- the field behind the tab ends at x, and o is the word that it is
+  pub word_found : (x : ℕ) (o : Option A) → begins 9 (drop e s) ≡ true → x ≡ e + 1 + length (field_of (drop (e + 1) s))
+      → o ≡ word_of (take (x - (e + 1)) (drop (e + 1) s)) → word_here word_of (drop e s) ≡ (let_some o None λ w. Some (record { word = w; rest = drop x s }))
+  unfolding word_here
+  word_found x o h q is =
+      ap (λ v. let_some v None λ u. let_some (word_of (field_of u)) None λ w. Some (record { word = w; rest = behind u })) (tab_found s e h)
+      ∙ (λ i. let_some (same_word i) None λ w. Some (record { word = w; rest = same_rest i }))
     where
-      behind_the_tab : word_here (drop e s) ≡ Some (record { word = field_of (drop (e + 1) s); rest = behind (drop (e + 1) s) })
-      behind_the_tab = rw (here s e h, eq-eqb (get_or s e 0) 9 n, behind_tab)
-
       same_length : x - (e + 1) ≡ length (field_of (drop (e + 1) s))
       same_length = omega (arith, q)
+
+      same_word : word_of (field_of (drop (e + 1) s)) ≡ o
+      same_word = sym (is ∙ ap (λ n. word_of (take n (drop (e + 1) s))) same_length ∙ ap word_of (field_take (drop (e + 1) s)))
+
+      same_rest : behind (drop (e + 1) s) ≡ drop x s
+      same_rest = behind_at s (e + 1) ∙ ap (λ n. drop n s) (sym q)
+
+-- what the definition reads where the code has read a word, and where it has not
+module _ {A : Type 0} (word_of : Text → Option A) (s t : Text) (r : Option (WordRead A)) (q : word_is s r ≡ word_here word_of t) where
+  pub word_read : (x : WordRead A) → r ≡ Some x → word_here word_of t ≡ Some (record { word = x.word; rest = drop x.end s })
+  word_read x h = sym q ∙ ap (word_is s) h
+
+  pub word_lost : r ≡ None → word_here word_of t ≡ None
+  word_lost h = sym q ∙ ap (word_is s) h

@@ -1,5 +1,5 @@
--- What the answers stand for: a text is a part of the file s, and what is left of a line is where that begins. Assumes nothing.
-use Rattle.std.specs.Prelude.{ℕ, Bool, ◌+◌, ◌-◌, ◌≤◌, ◌≡◌, true, false, ◌&&◌, [], ◌∷◌, leb, length, take, drop}
+-- What the answers stand for: a text is a part of the file s, and what is left of a line begins where the field ends. Assumes nothing.
+use Rattle.std.specs.Prelude.{ℕ, Bool, ◌+◌, true, false, ◌&&◌, [], ◌∷◌, leb, length, drop}
 use Rattle.std.specs.Prelude.{Option, None, Some}
 use Rattle.model.specs.Common.{Text, let_some}
 use Rattle.records.specs.Layout.{bytes_at}
@@ -8,6 +8,7 @@ use Rattle.format.specs.declared.Kind.{Kind}
 use Rattle.fields.specs.declared.Value.{Value}
 use Rattle.format.specs.Lines as lines
 use Rattle.fields.specs.declared.Slot.{Slot}
+use Rattle.fields.specs.declared.WordRead.{WordRead}
 
 abbrev pub value_is : Text → Value → format.Value
 value_is s Value.Absent = format.Value.absent
@@ -18,20 +19,9 @@ abbrev pub slot_is : Text → Option Slot → Option format.Read
 slot_is s None = None
 slot_is s (Some r) = Some (record { value = value_is s r.value; rest = drop r.end s })
 
--- where a word begins, and where it ends
-abbrev pub word_is : Text → Option (ℕ × ℕ) → Option lines.WordRead
+abbrev pub word_is : {A : Type 0} → Text → Option (WordRead A) → Option (lines.WordRead A)
 word_is s None = None
-word_is s (Some w) = Some (record { word = take (w.1 - w.0) (drop w.0 s); rest = drop w.1 s })
-
--- so that the word can be lent as a part of the file
-abbrev pub Inside : Text → Option (ℕ × ℕ) → Type 0
-Inside s None = Unit {0}
-Inside s (Some w) = (w.0 ≤ w.1) × (w.1 ≤ length s)
-
--- the word behind the tab that stands at `at`
-pub record IsWord (s : Text) (at : ℕ) (r : Option (ℕ × ℕ)) : Type 0 where
-  pub is : word_is s r ≡ lines.word_here (drop at s)
-  pub inside : Inside s r
+word_is s (Some w) = Some (record { word = w.word; rest = drop w.end s })
 
 -- the field that begins here, read by f
 unfoldable pub field_as : (Text → Option format.Value) → Text → Option format.Read

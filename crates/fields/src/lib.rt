@@ -6,12 +6,13 @@ ghost use Rattle.model.specs.Common.{is_empty};
 ghost use Rattle.format.specs.Fields.{field_of, is_dash, number_of, numbered, name_value, value_of, is_nothing, slot};
 ghost use Rattle.format.specs.declared.Kind.{Kind};
 ghost use Rattle.words.specs.Packed.{candidate_place};
-ghost use Rattle.fields.specs.Held.{IsWord, slot_is, may_be_absent, field_as, scanned, visible_run};
+ghost use Rattle.format.specs.Lines.{word_here};
+ghost use Rattle.fields.specs.Held.{slot_is, word_is, may_be_absent, field_as, scanned, visible_run};
 
 use format::Kind;
-use words::{field_end, find_word};
+use words::{PlaceWord, end_before, field_end, find_word, is_byte};
 
-// What a field holds: a text is where it begins and how long it is.
+// What a field holds: a text is where it begins and how long it is. (The three cases are the definition's: of an `Option` the last two would be an enum within it.)
 #[derive(Clone, Copy)]
 pub enum Value {
     Absent,
@@ -40,16 +41,16 @@ fn digits_at(file: &[u8], from: usize, most: u64) -> Option<Slot>
     let mut n: u64 = 0;
     for e in from..file.len() {
         let b = file[e];
-        if b == 9 || b == 10 {
+        if b == b'\t' || b == b'\n' {
             return Some(Slot {
                 value: Value::Number(n),
                 end: e,
             });
         }
-        if b < 48 || 57 < b {
+        if b < b'0' || b'9' < b {
             return None;
         }
-        let d = (b - 48) as u64;
+        let d = (b - b'0') as u64;
         if most < d || (most - d) / 10 < n {
             return None;
         }
@@ -65,7 +66,7 @@ fn digits_at(file: &[u8], from: usize, most: u64) -> Option<Slot>
 fn is_end(file: &[u8], from: usize) -> bool
     ensures { result ≡ is_empty (field_of (drop from file.now)) }
 {
-    file.len() <= from || file[from] == 9 || file[from] == 10
+    file.len() <= from || file[from] == b'\t' || file[from] == b'\n'
 }
 
 // A number without leading zeros, at most `most`.
@@ -75,7 +76,7 @@ fn number_at(file: &[u8], from: usize, most: u64) -> Option<Slot>
     if is_end(file, from) {
         return None;
     }
-    if file[from] == 48 {
+    if file[from] == b'0' {
         let e = from + 1;
         if is_end(file, e) {
             return Some(Slot {
@@ -92,20 +93,14 @@ fn number_at(file: &[u8], from: usize, most: u64) -> Option<Slot>
 fn is_dash_at(file: &[u8], from: usize) -> bool
     ensures { result ≡ is_dash (field_of (drop from file.now)) }
 {
-    from < file.len() && file[from] == 45 && is_end(file, from + 1)
+    is_byte(file, from, b'-') && is_end(file, from + 1)
 }
 
 // The end of the bytes from 21 to 7E that stand from `from` on.
 fn visible_end(file: &[u8], from: usize) -> usize
     ensures { result ≡ from + length (visible_run (drop from file.now)) }
 {
-    for e in from..file.len() {
-        let b = file[e];
-        if b < 33 || 126 < b {
-            return e;
-        }
-    }
-    from.max(file.len())
+    end_before(file, from, |b| b < b'!' || b'~' < b)
 }
 
 // A name: 1 to 64 bytes from 21 to 7E, and not `-`.
@@ -200,7 +195,7 @@ pub fn value_at(file: &[u8], kind: Kind, from: usize) -> Option<Slot>
     }
 }
 
-// `Nothing` reads no field.
+// `Nothing` reads no field. (`matches!` is the definition's own test, case by case; a derived `==` would be another, and need a lemma.)
 fn is_nothing(kind: Kind) -> bool
     ensures { result ≡ is_nothing kind }
 {
@@ -217,7 +212,7 @@ pub fn read_slot(file: &[u8], kind: Kind, at: usize) -> Option<Slot>
             end: at,
         });
     }
-    if file.len() <= at || file[at] != 9 {
+    if !is_byte(file, at, b'\t') {
         return None;
     }
     value_at(file, kind, at + 1)
@@ -225,13 +220,22 @@ pub fn read_slot(file: &[u8], kind: Kind, at: usize) -> Option<Slot>
 
 // ---- a word
 
-// Where the word behind the tab that stands at `at` begins, and where it ends.
-pub fn word_here(file: &[u8], at: usize) -> Option<(usize, usize)>
-    ensures { IsWord file.now at result }
+// A word of its place, and where its field ends.
+#[derive(Clone, Copy)]
+pub struct WordRead<W> {
+    pub word: W,
+    pub end: usize,
+}
+
+// The word behind the tab that stands at `at`, if it is one of its place.
+pub fn word_here<W: PlaceWord>(file: &[u8], at: usize) -> Option<WordRead<W>>
+    ensures { word_is file.now result ≡ word_here W.meaning (drop at file.now) }
 {
-    if file.len() <= at || file[at] != 9 {
+    if !is_byte(file, at, b'\t') {
         return None;
     }
     let from = at + 1;
-    Some((from, field_end(file, from)))
+    let end = field_end(file, from);
+    let word = words::word(&file[from..end])?;
+    Some(WordRead { word, end })
 }

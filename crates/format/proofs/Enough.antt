@@ -13,11 +13,11 @@ use Rattle.format.specs.declared.Kind.{Kind}
 use Rattle.format.specs.declared.Listed.{Listed}
 use Rattle.format.specs.declared.Shape.{Shape}
 use Rattle.format.specs.declared.LineWord.{LineWord}
-use Rattle.format.specs.Words.{line_word_of, scope_word_of, type_word_of, definition_word_of, origin_word_of, node_word_of, question_word_of}
+use Rattle.format.specs.Words.{scope_word_of, type_word_of, definition_word_of, origin_word_of, node_word_of, question_word_of}
 use Rattle.format.specs.Fields.{field_of, behind, behind_tab, value_of, Value, absent, Read, reading, slot_field, is_nothing, slot}
 use Rattle.format.specs.Tails.{Three, three, first_kind, second_kind, Items, no_items, with_item, at_end, items_within, is_empty_list, items, Tail, tail}
-use Rattle.format.specs.Shapes.{maybe_num, bare, module_shape, scope_as, type_shape, type_as, definition_shape, definition_as, origin_shape, origin_as, node_shape, node_as, question_shape, question_as}
-use Rattle.format.specs.Lines.{Line, WordRead, word_here, module_line, scope_line, type_line, definition_line, expression_line, question_line, line_from}
+use Rattle.format.specs.Shapes.{maybe_num, bare, module_shape, scope_as, type_shape, definition_shape, definition_as, origin_shape, node_shape, question_shape}
+use Rattle.format.specs.Lines.{Line, WordRead, word_here, OriginRead, origin_here, module_line, scope_line, type_line, definition_line, expression_line, question_line, line_from}
 use Rattle.format.specs.FirstPass.{Seen, Step, go, refuse, First, read, wrong, step_on, lines_within}
 use Rattle.format.proofs.Reading.{Every, nothing, this, every_some, every_then, every_after}
 use Rattle.format.proofs.Passing.{step_go}
@@ -139,48 +139,50 @@ tail_shorter s t =
     every_then (list_shorter s.list h.rest) λ r q.
     this (record { a = h.a; b = h.b; c = h.c; list = r.list; rest = r.rest }) (omega arith)
 
-word_shorter : (t : Text) → Every (λ (w : WordRead). length w.rest ≤ length t) (word_here t)
+word_shorter : {A : Type 0} (word_of : Text → Option A) (t : Text) → Every (λ (w : WordRead A). length w.rest ≤ length t) (word_here word_of t)
 unfolding word_here
-word_shorter t = every_then (tab_shorter t) λ u less. this (record { word = field_of u; rest = behind u }) (omega (arith, behind_shorter u))
+word_shorter word_of t =
+    every_then (tab_shorter t) λ u less.
+    every_after (word_of (field_of u)) λ w. this (record { word = w; rest = behind u }) (omega (arith, behind_shorter u))
+
+origin_shorter : (t : Text) → Every (λ (o : OriginRead). length o.rest ≤ length t) (origin_here t)
+unfolding origin_here
+origin_shorter t =
+    every_then (word_shorter origin_word_of t) λ v a.
+    every_then (three_shorter (origin_shape v.word).a (origin_shape v.word).b Kind.Nothing v.rest) λ o b. this _ (omega arith)
 
 line_shorter : (w : LineWord) (t : Text) → Every (λ (l : Line). length l.rest ≤ length t) (line_from w t)
 unfolding line_from module_line scope_line type_line definition_line expression_line question_line
 line_shorter LineWord.M t = every_then (tail_shorter module_shape t) λ x p. this _ p
 line_shorter LineWord.S t =
     every_then (slot_shorter Kind.MaybeNumber t) λ p a.
-    every_then (word_shorter p.rest) λ w b.
+    every_then (word_shorter scope_word_of p.rest) λ w b.
     every_then (tail_shorter bare w.rest) λ x c.
-    every_after (scope_as (maybe_num p.value) (scope_word_of w.word)) λ scope. this _ (omega arith)
+    every_after (scope_as (maybe_num p.value) w.word) λ scope. this _ (omega arith)
 line_shorter LineWord.T t =
-    every_then (word_shorter t) λ w a.
-    every_then (tail_shorter (type_shape (type_word_of w.word)) w.rest) λ x b.
-    every_after (type_as (type_word_of w.word) x) λ type. this _ (omega arith)
+    every_then (word_shorter type_word_of t) λ w a.
+    every_then (tail_shorter (type_shape w.word) w.rest) λ x b. this _ (omega arith)
 line_shorter LineWord.D t =
     every_then (three_shorter Kind.Number Kind.Name Kind.Position t) λ h a.
     every_then (three_shorter Kind.Position Kind.Position Kind.Position h.rest) λ k b.
-    every_then (word_shorter k.rest) λ w c.
-    every_then (tail_shorter (definition_shape (definition_word_of w.word)) w.rest) λ x d.
-    every_after (definition_as (definition_word_of w.word) x) λ kind. this _ (omega arith)
+    every_then (word_shorter definition_word_of k.rest) λ w c.
+    every_then (tail_shorter (definition_shape w.word) w.rest) λ x d.
+    every_after (definition_as w.word x) λ kind. this _ (omega arith)
 line_shorter LineWord.E t =
     every_then (three_shorter Kind.Number Kind.Position Kind.Position t) λ h a.
     every_then (three_shorter Kind.MaybeNumber Kind.MaybeNumber Kind.Nothing h.rest) λ k b.
-    every_then (word_shorter k.rest) λ v c.
-    every_then (three_shorter (origin_shape (origin_word_of v.word)).a (origin_shape (origin_word_of v.word)).b Kind.Nothing v.rest) λ o d.
-    every_then (word_shorter o.rest) λ w e.
-    every_then (tail_shorter (node_shape (node_word_of w.word)) w.rest) λ x f.
-    every_after (origin_as (origin_word_of v.word) o) λ origin.
-    every_after (node_as (node_word_of w.word) x) λ node. this _ (omega arith)
+    every_then (origin_shorter k.rest) λ o c.
+    every_then (word_shorter node_word_of o.rest) λ w d.
+    every_then (tail_shorter (node_shape w.word) w.rest) λ x e. this _ (omega arith)
 line_shorter LineWord.Q t =
-    every_then (word_shorter t) λ w a.
-    every_then (tail_shorter (question_shape (question_word_of w.word)) w.rest) λ x b.
-    every_after (question_as (question_word_of w.word) x) λ question. this _ (omega arith)
-line_shorter LineWord.Other t = nothing
+    every_then (word_shorter question_word_of t) λ w a.
+    every_then (tail_shorter (question_shape w.word) w.rest) λ x b. this _ (omega arith)
 
 -- a line takes at least its LF
 pub step_shorter : (s : Seen) (t : Text) (s₁ : Seen) (t₁ : Text) → step_on s t ≡ go s₁ t₁ → length t₁ < length t
 step_shorter s t s₁ t₁ e =
-    let added = step_go s t s₁ t₁ e in
-    let read : length added.line.rest ≤ length (behind t) = every_some (line_shorter (line_word_of (field_of t)) (behind t)) added.read in
+    let (w, added) = step_go s t s₁ t₁ e in
+    let read : length added.line.rest ≤ length (behind t) = every_some (line_shorter w (behind t)) added.read in
     let ended : length added.line.rest ≡ suc (length t₁) = ap length added.ends in omega (arith, read, ended, behind_shorter t)
 
 lines_same : (n n' line : ℕ) (s : Seen) (t : Text) → length t < n → length t < n' → lines_within n line s t ≡ lines_within n' line s t

@@ -13,8 +13,7 @@ use Rattle.model.specs.Links.{scope_in}
 use Rattle.model.specs.Limits.{max_bytes}
 use Rattle.model.specs.WellFormed.{WellFormed, QuestionNumbers}
 use Rattle.model.proofs.Tests.{none≢some, some-injective, some_of}
-use Rattle.format.specs.Words.{keyword, is_keyword, place_in, word_at, line_word_of}
-use Rattle.format.specs.Fields.{field_of}
+use Rattle.format.specs.Words.{keyword, is_keyword, place_in, word_at}
 use Rattle.format.specs.FirstPass.{Seen, Step, refuse, go, step_on, First, read, wrong, lines_within, first_pass}
 use Rattle.format.specs.LinkCheck.{link_fault}
 use Rattle.format.specs.Load.{Loading, accepted, refused, first_lines, first_line_length, version_of, after_first, load_lines, load}
@@ -38,9 +37,9 @@ index_in (wrong k line) other = other
 
 step_grown : (version : ℕ) (s : Seen) (t : Text) (s₁ : Seen) (t₁ : Text) → step_on s t ≡ go s₁ t₁ → Growing version s.index → Growing version s₁.index
 step_grown version s t s₁ t₁ e g =
-    let added = step_go s t s₁ t₁ e in
+    let (w, added) = step_go s t s₁ t₁ e in
     subst (Growing version) added.is_added
-    (grown version (line_word_of (field_of t)) added.line.entry s.index added.entry_of added.room added.items added.new g)
+    (grown version w added.line.entry s.index added.entry_of added.room added.items added.new g)
 
 lines_grown : (version n line : ℕ) (s : Seen) (t : Text) (index : Index) → lines_within n line s t ≡ read index → Growing version s.index → Growing version index
 unfolding lines_within

@@ -6,7 +6,7 @@ use mathlib.Core.List.{[], ◌∷◌}
 use Rattle.std.specs.Prelude.{Option, None, Some}
 use lib.Dec.{eqb, ltb}
 use Rattle.std.specs.Prelude.{if◌then◌else◌}
-use Rattle.model.specs.Common.{Text}
+use Rattle.model.specs.Common.{Text, let_some}
 use Rattle.model.specs.Records.{Index}
 use Rattle.model.specs.Limits.{max_items, item_count}
 use Rattle.model.proofs.Tests.{eqb_sound, ltb-false, not-true, and_right}
@@ -14,7 +14,7 @@ use Rattle.format.specs.declared.LineWord.{LineWord}
 use Rattle.format.specs.Words.{line_word_of}
 use Rattle.format.specs.Fields.{field_of, behind}
 use Rattle.format.specs.Lines.{entry_items, Line, line_from}
-use Rattle.format.specs.FirstPass.{add, has_line_room, stage_of, in_place, is_again, Seen, Step, refuse, go, ended, judged, step_on}
+use Rattle.format.specs.FirstPass.{add, has_line_room, stage_of, in_place, is_again, Seen, Step, refuse, go, ended, judged, counted, step_on}
 use Rattle.format.proofs.Reading.{every_some, EntryOf, every_line}
 
 -- a line of kind w was read at t, and its record added to the index; an LF and `rest` are left
@@ -83,9 +83,13 @@ judged_go w s t s₁ t₁ room e = at_line (line_from w t) refl e
           ends = rest;
         }
 
-pub step_go : (s : Seen) (t : Text) (s₁ : Seen) (t₁ : Text) → step_on s t ≡ go s₁ t₁
-    → Added (line_word_of (field_of t)) s.index (behind t) s₁.index t₁
+-- the line's first field is one of the six words
+pub step_go : (s : Seen) (t : Text) (s₁ : Seen) (t₁ : Text) → step_on s t ≡ go s₁ t₁ → (w : LineWord) × Added w s.index (behind t) s₁.index t₁
 unfolding step_on
-step_go s t s₁ t₁ e =
-    let w : LineWord = line_word_of (field_of t) in
-    let (room, h) = guarded (has_line_room w s.index) 3 (judged w s (line_from w (behind t))) s₁ t₁ e in judged_go w s (behind t) s₁ t₁ room h
+step_go s t s₁ t₁ e = at_word (line_word_of (field_of t)) e
+  where
+    at_word : (o : Option LineWord) → (let_some o (refuse 4) λ w. counted w s (behind t)) ≡ go s₁ t₁ → (w : LineWord) × Added w s.index (behind t) s₁.index t₁
+    at_word None h = absurd (refuse≢go h)
+    at_word (Some w) h =
+        let (room, h₁) = guarded (has_line_room w s.index) 3 (judged w s (line_from w (behind t))) s₁ t₁ h in
+        (w, judged_go w s (behind t) s₁ t₁ room h₁)

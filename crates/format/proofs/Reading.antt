@@ -15,11 +15,11 @@ use Rattle.format.specs.declared.Shape.{Shape}
 use Rattle.format.specs.declared.LineWord.{LineWord}
 use Rattle.format.specs.declared.ScopeWord.{ScopeWord}
 use Rattle.format.specs.declared.QuestionWord.{QuestionWord}
-use Rattle.format.specs.Words.{scope_word_of, type_word_of, definition_word_of, origin_word_of, node_word_of, question_word_of}
+use Rattle.format.specs.Words.{scope_word_of, type_word_of, definition_word_of, node_word_of, question_word_of}
 use Rattle.format.specs.Fields.{only_if, plain_number, number_of, numbered, value_of, Value, absent, number, Read, reading, behind, field_of, behind_tab, slot_field, is_nothing, slot}
 use Rattle.format.specs.Tails.{three, items, Tail, tail}
-use Rattle.format.specs.Shapes.{num, maybe_num, bare, module_shape, scope_as, type_shape, type_as, definition_shape, definition_as, origin_shape, origin_as, node_shape, node_as, question_shape, question_as}
-use Rattle.format.specs.Lines.{Entry, a_module, a_scope, a_type, a_definition, an_expression, a_question, Line, word_here, module_line, scope_line, type_line, definition_line, expression_line, question_line, line_from}
+use Rattle.format.specs.Shapes.{num, maybe_num, bare, module_shape, scope_as, type_shape, definition_shape, definition_as, node_shape, question_shape, question_as}
+use Rattle.format.specs.Lines.{Entry, a_module, a_scope, a_type, a_definition, an_expression, a_question, Line, word_here, origin_here, module_line, scope_line, type_line, definition_line, expression_line, question_line, line_from}
 
 -- ------------------------------------------------------------------ what is known of a result, if there is one
 
@@ -64,10 +64,6 @@ number_small most u = of (plain_number u)
 abbrev SmallKind : ℕ → Kind → Type 0
 SmallKind most k = (u : Text) → Every (Small most) (value_of k u)
 
-nothing_small : (most : ℕ) → SmallKind most Kind.Nothing
-unfolding value_of
-nothing_small most u = nothing
-
 link_small : SmallKind max_number Kind.Number
 unfolding value_of
 link_small u = number_small max_number u
@@ -109,22 +105,19 @@ most_second QuestionWord.Expr = max_number
 most_second QuestionWord.Def = max_number
 most_second QuestionWord.OfType = max_number
 most_second QuestionWord.At = max_position
-most_second QuestionWord.Other = max_number
 
 question_tail : (w : QuestionWord) (t : Text) → Every (SmallTail max_number (most_second w)) (tail (question_shape w) t)
 question_tail QuestionWord.Expr t = tail_small (question_shape QuestionWord.Expr) max_number max_number link_small link_small t
 question_tail QuestionWord.Def t = tail_small (question_shape QuestionWord.Def) max_number max_number link_small link_small t
 question_tail QuestionWord.OfType t = tail_small (question_shape QuestionWord.OfType) max_number max_number link_small link_small t
 question_tail QuestionWord.At t = tail_small (question_shape QuestionWord.At) max_number max_position link_small position_small t
-question_tail QuestionWord.Other t = tail_small (question_shape QuestionWord.Other) max_number max_number (nothing_small max_number) (nothing_small max_number) t
 
-question_small : (w : QuestionWord) (x : Tail) → SmallTail max_number (most_second w) x → Every QuestionNumbers (question_as w x)
+question_small : (w : QuestionWord) (x : Tail) → SmallTail max_number (most_second w) x → QuestionNumbers (question_as w x)
 unfolding question_as
-question_small QuestionWord.Expr x small = this (Question.expr (num x.a) (num x.b) (maybe_num x.c)) (small.a, small.b)
-question_small QuestionWord.Def x small = this (Question.def (num x.a) (num x.b)) (small.a, small.b)
-question_small QuestionWord.OfType x small = this (Question.type (num x.a) (num x.b) (num x.c)) (small.a, small.b)
-question_small QuestionWord.At x small = this (Question.at (num x.a) (num x.b)) (small.a, small.b)
-question_small QuestionWord.Other x small = nothing
+question_small QuestionWord.Expr x small = (small.a, small.b)
+question_small QuestionWord.Def x small = (small.a, small.b)
+question_small QuestionWord.OfType x small = (small.a, small.b)
+question_small QuestionWord.At x small = (small.a, small.b)
 
 -- ------------------------------------------------------------------ a scope without parent
 
@@ -141,12 +134,10 @@ scope_kind None ScopeWord.Module = this (record { parent = None; kind = ScopeKin
 scope_kind None ScopeWord.Function = nothing
 scope_kind None ScopeWord.Block = nothing
 scope_kind None ScopeWord.Loop = nothing
-scope_kind None ScopeWord.Other = nothing
 scope_kind (Some p) ScopeWord.Module = nothing
 scope_kind (Some p) ScopeWord.Function = this (record { parent = Some p; kind = ScopeKind.FunctionScope }) (some_parent p ScopeKind.FunctionScope)
 scope_kind (Some p) ScopeWord.Block = this (record { parent = Some p; kind = ScopeKind.BlockScope }) (some_parent p ScopeKind.BlockScope)
 scope_kind (Some p) ScopeWord.Loop = this (record { parent = Some p; kind = ScopeKind.LoopScope }) (some_parent p ScopeKind.LoopScope)
-scope_kind (Some p) ScopeWord.Other = nothing
 
 -- ------------------------------------------------------------------ a line of a kind
 
@@ -164,30 +155,24 @@ unfolding line_from module_line scope_line type_line definition_line expression_
 every_line LineWord.M t = every_after (tail module_shape t) λ x. this _ (module_entry _)
 every_line LineWord.S t =
     every_after (slot Kind.MaybeNumber t) λ p.
-    every_after (word_here p.rest) λ w.
+    every_after (word_here scope_word_of p.rest) λ w.
     every_after (tail bare w.rest) λ x.
-    every_then (scope_kind (maybe_num p.value) (scope_word_of w.word)) λ scope kind. this _ (scope_entry scope kind)
+    every_then (scope_kind (maybe_num p.value) w.word) λ scope kind. this _ (scope_entry scope kind)
 every_line LineWord.T t =
-    every_after (word_here t) λ w.
-    every_after (tail (type_shape (type_word_of w.word)) w.rest) λ x.
-    every_after (type_as (type_word_of w.word) x) λ type. this _ (type_entry type)
+    every_after (word_here type_word_of t) λ w.
+    every_after (tail (type_shape w.word) w.rest) λ x. this _ (type_entry _)
 every_line LineWord.D t =
     every_after (three Kind.Number Kind.Name Kind.Position t) λ h.
     every_after (three Kind.Position Kind.Position Kind.Position h.rest) λ k.
-    every_after (word_here k.rest) λ w.
-    every_after (tail (definition_shape (definition_word_of w.word)) w.rest) λ x.
-    every_after (definition_as (definition_word_of w.word) x) λ kind. this _ (definition_entry _)
+    every_after (word_here definition_word_of k.rest) λ w.
+    every_after (tail (definition_shape w.word) w.rest) λ x.
+    every_after (definition_as w.word x) λ kind. this _ (definition_entry _)
 every_line LineWord.E t =
     every_after (three Kind.Number Kind.Position Kind.Position t) λ h.
     every_after (three Kind.MaybeNumber Kind.MaybeNumber Kind.Nothing h.rest) λ k.
-    every_after (word_here k.rest) λ v.
-    every_after (three (origin_shape (origin_word_of v.word)).a (origin_shape (origin_word_of v.word)).b Kind.Nothing v.rest) λ o.
-    every_after (word_here o.rest) λ w.
-    every_after (tail (node_shape (node_word_of w.word)) w.rest) λ x.
-    every_after (origin_as (origin_word_of v.word) o) λ origin.
-    every_after (node_as (node_word_of w.word) x) λ node. this _ (expression_entry _)
+    every_after (origin_here k.rest) λ o.
+    every_after (word_here node_word_of o.rest) λ w.
+    every_after (tail (node_shape w.word) w.rest) λ x. this _ (expression_entry _)
 every_line LineWord.Q t =
-    every_after (word_here t) λ w.
-    every_then (question_tail (question_word_of w.word) w.rest) λ x small.
-    every_then (question_small (question_word_of w.word) x small) λ question numbers. this _ (question_entry question numbers)
-every_line LineWord.Other t = nothing
+    every_after (word_here question_word_of t) λ w.
+    every_then (question_tail w.word w.rest) λ x small. this _ (question_entry (question_as w.word x) (question_small w.word x small))

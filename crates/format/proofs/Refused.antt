@@ -15,7 +15,7 @@ use Rattle.format.specs.declared.LineWord.{LineWord}
 use Rattle.format.specs.Words.{line_word_of}
 use Rattle.format.specs.Fields.{field_of, behind}
 use Rattle.format.specs.Lines.{Line, line_from, entry_items}
-use Rattle.format.specs.FirstPass.{Seen, Step, refuse, go, add, stage_of, in_place, is_again, has_line_room, ended, judged, step_on, First, read, wrong, lines_within, first_pass}
+use Rattle.format.specs.FirstPass.{Seen, Step, refuse, go, add, stage_of, in_place, is_again, has_line_room, ended, judged, counted, step_on, First, read, wrong, lines_within, first_pass}
 use Rattle.format.specs.LinkCheck.{link_fault}
 use Rattle.format.specs.Load.{Loading, accepted, refused, first_line_length, version_of, after_first, load_lines, load}
 
@@ -42,14 +42,15 @@ judged_few w s (Some l) =
 
 step_few : (s : Seen) (t : Text) → StepFew (step_on s t)
 unfolding step_on
-step_few s t = by_room (has_line_room w s.index)
+step_few s t = by_word (line_word_of (field_of t))
   where
-    w : LineWord
-    w = line_word_of (field_of t)
+    by_room : (w : LineWord) (b : Bool) → StepFew (elim b [ true ↦ judged w s (line_from w (behind t)) | false ↦ refuse 3 ])
+    by_room w true = judged_few w s (line_from w (behind t))
+    by_room w false = omega arith
 
-    by_room : (b : Bool) → StepFew (elim b [ true ↦ judged w s (line_from w (behind t)) | false ↦ refuse 3 ])
-    by_room true = judged_few w s (line_from w (behind t))
-    by_room false = omega arith
+    by_word : (o : Option LineWord) → StepFew (let_some o (refuse 4) λ w. counted w s (behind t))
+    by_word None = omega arith
+    by_word (Some w) = by_room w (has_line_room w s.index)
 
 -- ------------------------------------------------------------------ all lines
 

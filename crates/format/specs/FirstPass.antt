@@ -3,7 +3,7 @@
 use Rattle.std.specs.Prelude.{ℕ, zero, suc, ◌+◌, List, [], ◌∷◌, ◌++◌, Bool, true, false, ◌&&◌, not, length, eqb, leb, ltb}
 use Rattle.std.specs.Prelude.{Option, None, Some}
 use Rattle.std.specs.Prelude.{if◌then◌else◌}
-use Rattle.model.specs.Common.{Text, is_empty, is_none}
+use Rattle.model.specs.Common.{Text, is_empty, is_none, let_some}
 use Rattle.model.specs.Records.{Name, Scope, TypeExpr, Definition, ExpressionInfo, Module, Index}
 use Rattle.model.specs.Lookups.{module_by_name}
 use Rattle.model.specs.Limits.{
@@ -77,7 +77,6 @@ has_line_room LineWord.T index = ltb (type_expr_count index) max_type_exprs
 has_line_room LineWord.D index = ltb (definition_count index) max_definitions
 has_line_room LineWord.E index = ltb (expression_count index) max_expressions
 has_line_room LineWord.Q index = ltb (length index.questions) max_questions
-has_line_room LineWord.Other index = true
 
 -- a module's "lines stand in the order M, S, T, D, E"; Q last: the stage of a line, and 0 before the first
 abbrev pub stage_of : LineWord → ℕ
@@ -87,7 +86,6 @@ stage_of LineWord.T = 3
 stage_of LineWord.D = 4
 stage_of LineWord.E = 5
 stage_of LineWord.Q = 6
-stage_of LineWord.Other = 0
 
 -- a line of this kind may follow one of that stage
 abbrev pub in_place : LineWord → ℕ → Bool
@@ -97,7 +95,6 @@ in_place LineWord.T stage = leb 1 stage && leb stage 3
 in_place LineWord.D stage = leb 1 stage && leb stage 4
 in_place LineWord.E stage = leb 1 stage && leb stage 5
 in_place LineWord.Q stage = true
-in_place LineWord.Other stage = false
 
 -- "a module name again"
 unfoldable pub is_again : Entry → Index → Bool
@@ -140,9 +137,9 @@ judged w s (Some l) =
 abbrev pub counted : LineWord → Seen → Text → Step
 counted w s t = elim (has_line_room w s.index) [ true ↦ judged w s (line_from w t) | false ↦ refuse refusal_limit ]
 
--- the line that begins here
+-- the line that begins here: its first field is one of the six words, else 4
 unfoldable pub step_on : Seen → Text → Step
-step_on s t = counted (line_word_of (field_of t)) s (behind t)
+step_on s t = let_some (line_word_of (field_of t)) (refuse refusal_form) λ w. counted w s (behind t)
 
 -- ------------------------------------------------------------------ all lines
 

@@ -39,13 +39,14 @@ pub record Line : Type 0 where
 abbrev pub line : Entry → Text → Line
 line entry rest = record { entry = entry; rest = rest }
 
--- the word behind the tab that stands here, and what is left behind it
-pub record WordRead : Type 0 where
-  pub word : Text
+-- the word behind the tab that stands here, and what is left behind it; none where the field is no word of its place
+pub record WordRead (A : Type 0) : Type 0 where
+  pub word : A
   pub rest : Text
 
-unfoldable pub word_here : Text → Option WordRead
-word_here t = let_some (behind_tab t) None λ u. Some (record { word = field_of u; rest = behind u })
+unfoldable pub word_here : {A : Type 0} → (Text → Option A) → Text → Option (WordRead A)
+word_here word_of t =
+    let_some (behind_tab t) None λ u. let_some (word_of (field_of u)) None λ w. Some (record { word = w; rest = behind u })
 
 -- ------------------------------------------------------------------ the six kinds, behind the first field
 
@@ -55,15 +56,14 @@ module_line t = let_some (tail module_shape t) None λ x. Some (line (a_module (
 unfoldable pub scope_line : Text → Option Line
 scope_line t =
     let_some (slot Kind.MaybeNumber t) None λ p.
-    let_some (word_here p.rest) None λ w.
+    let_some (word_here scope_word_of p.rest) None λ w.
     let_some (tail bare w.rest) None λ x.
-    let_some (scope_as (maybe_num p.value) (scope_word_of w.word)) None λ scope. Some (line (a_scope scope) x.rest)
+    let_some (scope_as (maybe_num p.value) w.word) None λ scope. Some (line (a_scope scope) x.rest)
 
 unfoldable pub type_line : Text → Option Line
 type_line t =
-    let_some (word_here t) None λ w.
-    let_some (tail (type_shape (type_word_of w.word)) w.rest) None λ x.
-    let_some (type_as (type_word_of w.word) x) None λ type. Some (line (a_type type) x.rest)
+    let_some (word_here type_word_of t) None λ w.
+    let_some (tail (type_shape w.word) w.rest) None λ x. Some (line (a_type (type_as w.word x)) x.rest)
 
 -- h: scope, name and start of name_span; k: end of name_span, start and end of full_span
 abbrev pub definition_from : Three → Three → DefinitionKind → Definition
@@ -82,9 +82,9 @@ unfoldable pub definition_line : Text → Option Line
 definition_line t =
     let_some (three Kind.Number Kind.Name Kind.Position t) None λ h.
     let_some (three Kind.Position Kind.Position Kind.Position h.rest) None λ k.
-    let_some (word_here k.rest) None λ w.
-    let_some (tail (definition_shape (definition_word_of w.word)) w.rest) None λ x.
-    let_some (definition_as (definition_word_of w.word) x) None λ kind.
+    let_some (word_here definition_word_of k.rest) None λ w.
+    let_some (tail (definition_shape w.word) w.rest) None λ x.
+    let_some (definition_as w.word x) None λ kind.
     Some (line (a_definition (definition_from h k kind)) x.rest)
 
 -- h: scope, start, end; k: expected t and recorded definition
@@ -100,23 +100,30 @@ expression_from h k origin node =
       node = node;
     }
 
+-- an expression's origin, and what is left behind it
+pub record OriginRead : Type 0 where
+  pub origin : Origin
+  pub rest : Text
+
+unfoldable pub origin_here : Text → Option OriginRead
+origin_here t =
+    let_some (word_here origin_word_of t) None λ v.
+    let_some (three (origin_shape v.word).a (origin_shape v.word).b Kind.Nothing v.rest) None λ o.
+    Some (record { origin = origin_as v.word o; rest = o.rest })
+
 unfoldable pub expression_line : Text → Option Line
 expression_line t =
     let_some (three Kind.Number Kind.Position Kind.Position t) None λ h.
     let_some (three Kind.MaybeNumber Kind.MaybeNumber Kind.Nothing h.rest) None λ k.
-    let_some (word_here k.rest) None λ v.
-    let_some (three (origin_shape (origin_word_of v.word)).a (origin_shape (origin_word_of v.word)).b Kind.Nothing v.rest) None λ o.
-    let_some (word_here o.rest) None λ w.
-    let_some (tail (node_shape (node_word_of w.word)) w.rest) None λ x.
-    let_some (origin_as (origin_word_of v.word) o) None λ origin.
-    let_some (node_as (node_word_of w.word) x) None λ node.
-    Some (line (an_expression (expression_from h k origin node)) x.rest)
+    let_some (origin_here k.rest) None λ o.
+    let_some (word_here node_word_of o.rest) None λ w.
+    let_some (tail (node_shape w.word) w.rest) None λ x.
+    Some (line (an_expression (expression_from h k o.origin (node_as w.word x))) x.rest)
 
 unfoldable pub question_line : Text → Option Line
 question_line t =
-    let_some (word_here t) None λ w.
-    let_some (tail (question_shape (question_word_of w.word)) w.rest) None λ x.
-    let_some (question_as (question_word_of w.word) x) None λ question. Some (line (a_question question) x.rest)
+    let_some (word_here question_word_of t) None λ w.
+    let_some (tail (question_shape w.word) w.rest) None λ x. Some (line (a_question (question_as w.word x)) x.rest)
 
 -- the line of a kind, behind its first field; none where its form is wrong
 unfoldable pub line_from : LineWord → Text → Option Line
@@ -126,4 +133,3 @@ line_from LineWord.T t = type_line t
 line_from LineWord.D t = definition_line t
 line_from LineWord.E t = expression_line t
 line_from LineWord.Q t = question_line t
-line_from LineWord.Other t = None

@@ -1,5 +1,4 @@
--- The lines' words: which fields stand behind each (document 01's list of M, S, T, D, E, Q), and the record that they make; none where the
--- word is no word of its place. Assumes nothing.
+-- The lines' words: which fields stand behind each (document 01's list of M, S, T, D, E, Q), and the record that they make. Assumes nothing.
 use Rattle.std.specs.Prelude.{ℕ, List, [], ◌∷◌, map, Bool, true, false}
 use Rattle.std.specs.Prelude.{Option, None, Some}
 use Rattle.model.specs.Common.{Text}
@@ -69,12 +68,10 @@ scope_as None ScopeWord.Module = a_scope_of None ScopeKind.ModuleScope
 scope_as None ScopeWord.Function = None
 scope_as None ScopeWord.Block = None
 scope_as None ScopeWord.Loop = None
-scope_as None ScopeWord.Other = None
 scope_as (Some p) ScopeWord.Module = None
 scope_as (Some p) ScopeWord.Function = a_scope_of (Some p) ScopeKind.FunctionScope
 scope_as (Some p) ScopeWord.Block = a_scope_of (Some p) ScopeKind.BlockScope
 scope_as (Some p) ScopeWord.Loop = a_scope_of (Some p) ScopeKind.LoopScope
-scope_as (Some p) ScopeWord.Other = None
 
 -- T
 abbrev pub type_shape : TypeWord → Shape
@@ -85,17 +82,15 @@ type_shape TypeWord.Custom = shape Kind.Name Kind.Nothing Kind.Nothing Listed.Em
 type_shape TypeWord.Ptr = shape Kind.Number Kind.Nothing Kind.Nothing Listed.Empty
 type_shape TypeWord.Tuple = shape Kind.Nothing Kind.Nothing Kind.Nothing Listed.Numbers
 type_shape TypeWord.Array = shape Kind.Number Kind.Size Kind.Nothing Listed.Empty
-type_shape TypeWord.Other = bare
 
-unfoldable pub type_as : TypeWord → Tail → Option TypeExpr
-type_as TypeWord.Felt x = Some TypeExpr.Felt
-type_as TypeWord.Bool x = Some TypeExpr.Bool
-type_as TypeWord.U32 x = Some TypeExpr.U32
-type_as TypeWord.Custom x = Some (TypeExpr.Custom (txt x.a))
-type_as TypeWord.Ptr x = Some (TypeExpr.Pointer (num x.a))
-type_as TypeWord.Tuple x = Some (TypeExpr.Tuple (nums x.list))
-type_as TypeWord.Array x = Some (TypeExpr.FixedArray (num x.a) (num x.b))
-type_as TypeWord.Other x = None
+unfoldable pub type_as : TypeWord → Tail → TypeExpr
+type_as TypeWord.Felt x = TypeExpr.Felt
+type_as TypeWord.Bool x = TypeExpr.Bool
+type_as TypeWord.U32 x = TypeExpr.U32
+type_as TypeWord.Custom x = TypeExpr.Custom (txt x.a)
+type_as TypeWord.Ptr x = TypeExpr.Pointer (num x.a)
+type_as TypeWord.Tuple x = TypeExpr.Tuple (nums x.list)
+type_as TypeWord.Array x = TypeExpr.FixedArray (num x.a) (num x.b)
 
 -- D, behind the spans. A let: "v is the destructured value; with `-` there is no path"
 abbrev pub path_ok : Option ℕ → List ℕ → Bool
@@ -111,7 +106,6 @@ definition_shape DefinitionWord.Let = shape Kind.MaybeNumber Kind.MaybeNumber Ki
 definition_shape DefinitionWord.Param = shape Kind.Number Kind.Nothing Kind.Nothing Listed.Empty
 definition_shape DefinitionWord.Use = shape Kind.Name Kind.Name Kind.Nothing Listed.Empty
 definition_shape DefinitionWord.Loop = bare
-definition_shape DefinitionWord.Other = bare
 
 unfoldable pub definition_as : DefinitionWord → Tail → Option DefinitionKind
 definition_as DefinitionWord.Fn x = Some (DefinitionKind.Function (num x.a) (fields x.list))
@@ -123,7 +117,6 @@ definition_as DefinitionWord.Let x =
 definition_as DefinitionWord.Param x = Some (DefinitionKind.Parameter (num x.a))
 definition_as DefinitionWord.Use x = Some (DefinitionKind.Use (txt x.a) (txt x.b))
 definition_as DefinitionWord.Loop x = Some DefinitionKind.LoopVariable
-definition_as DefinitionWord.Other x = None
 
 -- E: the origin with its link and value, and the node
 abbrev pub origin_shape : OriginWord → Shape
@@ -133,16 +126,14 @@ origin_shape OriginWord.Arg = shape Kind.Number Kind.Number Kind.Nothing Listed.
 origin_shape OriginWord.Assign = shape Kind.Number Kind.Unused Kind.Nothing Listed.Empty
 origin_shape OriginWord.Return = shape Kind.Unused Kind.Unused Kind.Nothing Listed.Empty
 origin_shape OriginWord.Cond = shape Kind.Unused Kind.Unused Kind.Nothing Listed.Empty
-origin_shape OriginWord.Other = bare
 
-unfoldable pub origin_as : OriginWord → Three → Option Origin
-origin_as OriginWord.Plain x = Some Origin.Plain
-origin_as OriginWord.Field x = Some (Origin.StructField (num x.a) (txt x.b))
-origin_as OriginWord.Arg x = Some (Origin.Arg (num x.a) (num x.b))
-origin_as OriginWord.Assign x = Some (Origin.AssignmentRhs (num x.a))
-origin_as OriginWord.Return x = Some Origin.ReturnExpr
-origin_as OriginWord.Cond x = Some Origin.Condition
-origin_as OriginWord.Other x = None
+unfoldable pub origin_as : OriginWord → Three → Origin
+origin_as OriginWord.Plain x = Origin.Plain
+origin_as OriginWord.Field x = Origin.StructField (num x.a) (txt x.b)
+origin_as OriginWord.Arg x = Origin.Arg (num x.a) (num x.b)
+origin_as OriginWord.Assign x = Origin.AssignmentRhs (num x.a)
+origin_as OriginWord.Return x = Origin.ReturnExpr
+origin_as OriginWord.Cond x = Origin.Condition
 
 abbrev pub node_shape : NodeWord → Shape
 node_shape NodeWord.Lit = shape Kind.MaybeName Kind.Nothing Kind.Nothing Listed.Empty
@@ -161,26 +152,24 @@ node_shape NodeWord.Rep = shape Kind.MaybeNumber Kind.Size Kind.Nothing Listed.E
 node_shape NodeWord.Cast = shape Kind.Number Kind.Nothing Kind.Nothing Listed.Empty
 node_shape NodeWord.New = shape Kind.Number Kind.MaybeNumber Kind.Nothing Listed.Empty
 node_shape NodeWord.Paren = shape Kind.MaybeNumber Kind.Nothing Kind.Nothing Listed.Empty
-node_shape NodeWord.Other = bare
 
-unfoldable pub node_as : NodeWord → Tail → Option Expression
-node_as NodeWord.Lit x = Some (Expression.Literal (maybe_txt x.a))
-node_as NodeWord.Bool x = Some Expression.BooleanLiteral
-node_as NodeWord.Ident x = Some (Expression.Identifier (txt x.a))
-node_as NodeWord.Un x = Some (Expression.Unary (unary_op_at (num x.a)) (maybe_num x.b))
-node_as NodeWord.Bin x = Some (Expression.Binary (binary_op_at (num x.a)) (maybe_num x.b) (maybe_num x.c))
-node_as NodeWord.Call x = Some (Expression.FunctionCall (maybe_num x.a) (maybe_nums x.list))
-node_as NodeWord.Member x = Some (Expression.MemberAccess (maybe_num x.a) (txt x.b))
-node_as NodeWord.Index x = Some (Expression.IndexAccess (maybe_num x.a) (maybe_num x.b))
-node_as NodeWord.Slit x = Some (Expression.StructLiteral (txt x.a) (num x.b) (num x.c))
-node_as NodeWord.Tuple x = Some (Expression.Tuple (maybe_nums x.list))
-node_as NodeWord.Tidx x = Some (Expression.TupleIndex (maybe_num x.a) (num x.b))
-node_as NodeWord.Arr x = Some (Expression.ArrayLiteral (maybe_nums x.list))
-node_as NodeWord.Rep x = Some (Expression.ArrayRepeat (maybe_num x.a) (num x.b))
-node_as NodeWord.Cast x = Some (Expression.Cast (num x.a))
-node_as NodeWord.New x = Some (Expression.New (num x.a) (maybe_num x.b))
-node_as NodeWord.Paren x = Some (Expression.Parenthesized (maybe_num x.a))
-node_as NodeWord.Other x = None
+unfoldable pub node_as : NodeWord → Tail → Expression
+node_as NodeWord.Lit x = Expression.Literal (maybe_txt x.a)
+node_as NodeWord.Bool x = Expression.BooleanLiteral
+node_as NodeWord.Ident x = Expression.Identifier (txt x.a)
+node_as NodeWord.Un x = Expression.Unary (unary_op_at (num x.a)) (maybe_num x.b)
+node_as NodeWord.Bin x = Expression.Binary (binary_op_at (num x.a)) (maybe_num x.b) (maybe_num x.c)
+node_as NodeWord.Call x = Expression.FunctionCall (maybe_num x.a) (maybe_nums x.list)
+node_as NodeWord.Member x = Expression.MemberAccess (maybe_num x.a) (txt x.b)
+node_as NodeWord.Index x = Expression.IndexAccess (maybe_num x.a) (maybe_num x.b)
+node_as NodeWord.Slit x = Expression.StructLiteral (txt x.a) (num x.b) (num x.c)
+node_as NodeWord.Tuple x = Expression.Tuple (maybe_nums x.list)
+node_as NodeWord.Tidx x = Expression.TupleIndex (maybe_num x.a) (num x.b)
+node_as NodeWord.Arr x = Expression.ArrayLiteral (maybe_nums x.list)
+node_as NodeWord.Rep x = Expression.ArrayRepeat (maybe_num x.a) (num x.b)
+node_as NodeWord.Cast x = Expression.Cast (num x.a)
+node_as NodeWord.New x = Expression.New (num x.a) (maybe_num x.b)
+node_as NodeWord.Paren x = Expression.Parenthesized (maybe_num x.a)
 
 -- Q
 abbrev pub question_shape : QuestionWord → Shape
@@ -188,11 +177,9 @@ question_shape QuestionWord.Expr = shape Kind.Number Kind.Number Kind.MaybeNumbe
 question_shape QuestionWord.Def = shape Kind.Number Kind.Number Kind.Nothing Listed.Empty
 question_shape QuestionWord.OfType = shape Kind.Number Kind.Number Kind.Number Listed.Empty
 question_shape QuestionWord.At = shape Kind.Number Kind.Position Kind.Nothing Listed.Empty
-question_shape QuestionWord.Other = bare
 
-unfoldable pub question_as : QuestionWord → Tail → Option Question
-question_as QuestionWord.Expr x = Some (Question.expr (num x.a) (num x.b) (maybe_num x.c))
-question_as QuestionWord.Def x = Some (Question.def (num x.a) (num x.b))
-question_as QuestionWord.OfType x = Some (Question.type (num x.a) (num x.b) (num x.c))
-question_as QuestionWord.At x = Some (Question.at (num x.a) (num x.b))
-question_as QuestionWord.Other x = None
+unfoldable pub question_as : QuestionWord → Tail → Question
+question_as QuestionWord.Expr x = Question.expr (num x.a) (num x.b) (maybe_num x.c)
+question_as QuestionWord.Def x = Question.def (num x.a) (num x.b)
+question_as QuestionWord.OfType x = Question.type (num x.a) (num x.b) (num x.c)
+question_as QuestionWord.At x = Question.at (num x.a) (num x.b)

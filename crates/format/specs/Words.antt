@@ -1,8 +1,7 @@
 -- The words of the format: one table for each place where a word stands, and which word a field is. Assumes nothing.
 use Rattle.std.specs.Prelude.{ℕ, List, [], ◌∷◌, Bool}
 use Prim.Native.String.{String}
-use Rattle.std.specs.Prelude.{Option}
-use Rattle.std.specs.Prelude.{slice_get}
+use Rattle.std.specs.Prelude.{Option, None, option_map, slice_get}
 use Rattle.model.specs.Common.{Text, bytes, let_some, first, eq_numbers}
 use Rattle.model.specs.Records.{UnaryOp, BinaryOp}
 use Rattle.format.specs.declared.LineWord.{LineWord}
@@ -31,13 +30,13 @@ is_keyword t k = eq_numbers t k.text
 unfoldable pub place_in : {A : Type 0} → List (Keyword A) → Text → Option ℕ
 place_in table t = first (is_keyword t) table
 
--- the word at a place of the table
+-- the word at a place of the table, else the other
 unfoldable pub word_at : {A : Type 0} → List (Keyword A) → A → ℕ → A
 word_at table other n = let_some (slice_get table n) other λ k. k.word
 
--- the word that the field is; `other` where it is none of the table
-unfoldable pub word_in : {A : Type 0} → List (Keyword A) → A → Text → A
-word_in table other t = let_some (place_in table t) other λ n. word_at table other n
+-- the word that the field is; none where it is none of the table
+unfoldable pub word_in : {A : Type 0} → List (Keyword A) → Text → Option A
+word_in table t = let_some (place_in table t) None λ n. option_map (λ k. k.word) (slice_get table n)
 
 -- ------------------------------------------------------------------ the tables
 
@@ -146,26 +145,26 @@ binary_op_words =
 
 -- ------------------------------------------------------------------ which word a field is
 
-unfoldable pub line_word_of : Text → LineWord
-line_word_of = word_in line_words LineWord.Other
+unfoldable pub line_word_of : Text → Option LineWord
+line_word_of = word_in line_words
 
-unfoldable pub scope_word_of : Text → ScopeWord
-scope_word_of = word_in scope_words ScopeWord.Other
+unfoldable pub scope_word_of : Text → Option ScopeWord
+scope_word_of = word_in scope_words
 
-unfoldable pub type_word_of : Text → TypeWord
-type_word_of = word_in type_words TypeWord.Other
+unfoldable pub type_word_of : Text → Option TypeWord
+type_word_of = word_in type_words
 
-unfoldable pub definition_word_of : Text → DefinitionWord
-definition_word_of = word_in definition_words DefinitionWord.Other
+unfoldable pub definition_word_of : Text → Option DefinitionWord
+definition_word_of = word_in definition_words
 
-unfoldable pub origin_word_of : Text → OriginWord
-origin_word_of = word_in origin_words OriginWord.Other
+unfoldable pub origin_word_of : Text → Option OriginWord
+origin_word_of = word_in origin_words
 
-unfoldable pub node_word_of : Text → NodeWord
-node_word_of = word_in node_words NodeWord.Other
+unfoldable pub node_word_of : Text → Option NodeWord
+node_word_of = word_in node_words
 
-unfoldable pub question_word_of : Text → QuestionWord
-question_word_of = word_in question_words QuestionWord.Other
+unfoldable pub question_word_of : Text → Option QuestionWord
+question_word_of = word_in question_words
 
 -- the operator at a place of its list
 unfoldable pub unary_op_at : ℕ → UnaryOp

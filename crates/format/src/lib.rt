@@ -1,8 +1,7 @@
 // The words of the index file's format, which the definitions in specs/ and the loader share.
 #![tactic(auto)]
 
-// What a line is, by its first field. (`Other`, here and in the enums below, is no word of the place. The definitions in specs/ share these enums and speak of
-// it as of a word, with a shape of its own, so it is no Option.)
+// What a line is, by its first field. (A field that is none of its place's words, here and below, is an `Option` of the enum without a value.)
 #[derive(Clone, Copy)]
 pub enum LineWord {
     M,
@@ -11,7 +10,6 @@ pub enum LineWord {
     D,
     E,
     Q,
-    Other,
 }
 
 // What a field of a line holds. `Nothing` reads no field.
@@ -58,7 +56,6 @@ pub enum ScopeWord {
     Function,
     Block,
     Loop,
-    Other,
 }
 
 #[derive(Clone, Copy)]
@@ -70,7 +67,6 @@ pub enum TypeWord {
     Ptr,
     Tuple,
     Array,
-    Other,
 }
 
 #[derive(Clone, Copy)]
@@ -82,7 +78,6 @@ pub enum DefinitionWord {
     Param,
     Use,
     Loop,
-    Other,
 }
 
 #[derive(Clone, Copy)]
@@ -93,7 +88,6 @@ pub enum OriginWord {
     Assign,
     Return,
     Cond,
-    Other,
 }
 
 #[derive(Clone, Copy)]
@@ -114,7 +108,6 @@ pub enum NodeWord {
     Cast,
     New,
     Paren,
-    Other,
 }
 
 #[derive(Clone, Copy)]
@@ -123,5 +116,4 @@ pub enum QuestionWord {
     Def,
     OfType,
     At,
-    Other,
 }

@@ -2,48 +2,33 @@
 use Prim.Native.Nat.{ℕ, zero, suc, ◌+◌, ◌-◌, ◌*◌, ◌≤◌, ◌<◌}
 use mathlib.Core.Path.{◌≡◌, refl, sym, ap, ap₂, ◌∙◌}
 use mathlib.Core.List.{List, [], ◌∷◌, ◌++◌}
-use mathlib.Core.Bool.{Bool, true, false, not, ◌&&◌, false≢true}
+use mathlib.Core.Bool.{Bool, true, false, not, ◌&&◌, ◌||◌}
+use Rattle.std.specs.List.{list_any, range_with_len}
 use Rattle.std.specs.Prelude.{Option, None, Some}
 use native.Mathlib.Nat.{zero-add}
 use native.Mathlib.Omega.{arith}
+use native.Mathlib.Numerals.{add-one}
 use lib.Dec.{eqb}
 use borrow.Author.Tests.{eq-eqb, ne_eqb}
 use Rattle.std.specs.Prelude.{if◌then◌else◌}
-use Rattle.model.specs.Common.{Text, first, next, is_none, eq_numbers, total}
+use Rattle.model.specs.Common.{first, next, is_none, eq_numbers, total}
 use Rattle.model.specs.Records.{Name, Scope, TypeExpr, Definition, ExpressionInfo, Module, Index}
 use Rattle.model.proofs.Tests.{eqb_sound}
 use Rattle.model.specs.Lookups.{module_named, module_by_name}
 use Rattle.format.specs.declared.LineWord.{LineWord}
-use Rattle.format.specs.Lines.{line_from, a_module}
+use Rattle.format.specs.Lines.{a_module}
 use Rattle.format.specs.FirstPass.{empty_module, with_scope, with_type, with_definition, with_expression, on_last, add, stage_of, is_again}
 use Rattle.records.specs.Layout.{each, word, scope_row, type_expr_row, definition_row, expression_row, question_row, scope_rows, type_expr_rows, definition_rows, expression_rows, begin_of, end_of}
-use Rattle.records.proofs.Lists.{each_same, each_snoc, each_unroll, each_ended, each_begun}
+use Rattle.records.proofs.Lists.{each_same, each_snoc}
 use Rattle.loader.specs.State.{rows_so_far, module_by, module_so_far, index_so_far, row_entry, BeginsAt, counts_after}
 use Rattle.loader.specs.Steps.{name_at, again, BeginsWithin}
 use Rattle.loader.specs.declared.rows.Counts.{Counts}
-
-pub and_true : (b : Bool) → (b && true) ≡ b
-and_true true = refl
-and_true false = refl
 
 pub and_false : (b : Bool) → (b && false) ≡ false
 and_false true = refl
 and_false false = refl
 
 -- ------------------------------------------------------------------ the counts
-
-abbrev with_stage : ℕ → Counts → Counts
-with_stage stage n =
-    record {
-      stage = stage;
-      modules = n.modules;
-      scopes = n.scopes;
-      types = n.types;
-      definitions = n.definitions;
-      expressions = n.expressions;
-      questions = n.questions;
-      items = n.items;
-    }
 
 module _ (n : Counts) (count : ℕ) where
   pub stage_after : (w : LineWord) → (counts_after w n count).stage ≡ stage_of w
@@ -53,45 +38,23 @@ module _ (n : Counts) (count : ℕ) where
   stage_after LineWord.D = refl
   stage_after LineWord.E = refl
   stage_after LineWord.Q = refl
-  stage_after LineWord.Other = refl
-
-  pub counted_is : (w w' : LineWord) (stage : ℕ) → w ≡ w' → stage ≡ stage_of w → with_stage stage (counts_after w' n count) ≡ counts_after w n count
-  counted_is w w' stage e p =
-      (λ i. with_stage ((p ∙ ap stage_of e ∙ sym (stage_after w')) i) (counts_after w' n count)) ∙ ap (λ v. counts_after v n count) (sym e)
-
-pub no_line : (t : Text) → line_from LineWord.Other t ≡ None
-unfolding line_from
-no_line t = refl
 
 -- ------------------------------------------------------------------ names so far
 
-module _ {A : Type 0} (test : A → Bool) (g : ℕ → A) (n i : ℕ) (h : i < n) where
-  pub found_here : test (g i) ≡ true → not (is_none (first test (each g (0 + i) (n - i)))) ≡ true
-  unfolding first
-  found_here e = ap (λ l. not (is_none (first test l))) (each_unroll g 0 n i h) ∙ at (test (g (0 + i))) (ap (λ k. test (g k)) (zero-add i) ∙ e)
-    where
-      at : (b : Bool) → b ≡ true → not (is_none (if b then Some zero else next (first test (each g (0 + (i + 1)) (n - (i + 1)))))) ≡ true
-      at true e = refl
-      at false e = absurd (false≢true e)
+-- a test of some number below n, and the search through what the numbers stand for
+pub any_found : {A : Type 0} (test : A → Bool) (g : ℕ → A) (a n : ℕ) → list_any (λ m. test (g m)) (range_with_len a n) ≡ not (is_none (first test (each g a n)))
+unfolding first each
+any_found test g a zero = refl
+any_found test g a (suc n) = by (test (g a)) (ap (λ m. list_any (λ k. test (g k)) (range_with_len m n)) (add-one a) ∙ any_found test g (suc a) n)
+  where
+    none_next : (o : Option ℕ) → not (is_none o) ≡ not (is_none (next o))
+    none_next None = refl
+    none_next (Some k) = refl
 
-  pub found_later : test (g i) ≡ false → not (is_none (first test (each g (0 + i) (n - i)))) ≡ not (is_none (first test (each g (0 + (i + 1)) (n - (i + 1)))))
-  unfolding first
-  found_later e = ap (λ l. not (is_none (first test l))) (each_unroll g 0 n i h) ∙ at (test (g (0 + i))) (ap (λ k. test (g k)) (zero-add i) ∙ e)
-    where
-      none_next : (o : Option ℕ) → not (is_none (next o)) ≡ not (is_none o)
-      none_next None = refl
-      none_next (Some k) = refl
-
-      at : (b : Bool) → b ≡ false → not (is_none (if b then Some zero else next (first test (each g (0 + (i + 1)) (n - (i + 1)))))) ≡ not (is_none (first test (each g (0 + (i + 1)) (n - (i + 1)))))
-      at true e = absurd (false≢true (sym e))
-      at false e = none_next (first test (each g (0 + (i + 1)) (n - (i + 1))))
-
-pub found_none : {A : Type 0} (test : A → Bool) (g : ℕ → A) (n i : ℕ) → n ≤ i → not (is_none (first test (each g (0 + i) (n - i)))) ≡ false
-unfolding first
-found_none test g n i h = ap (λ l. not (is_none (first test l))) (each_ended g 0 n i h)
-
-pub found_begun : {A : Type 0} (test : A → Bool) (g : ℕ → A) (n : ℕ) → not (is_none (first test (each g 0 n))) ≡ not (is_none (first test (each g (0 + 0) (n - 0))))
-found_begun test g n = ap (λ l. not (is_none (first test l))) (each_begun g 0 n)
+    by : (b : Bool) → list_any (λ m. test (g m)) (range_with_len (a + 1) n) ≡ not (is_none (first test (each g (suc a) n)))
+        → (b || list_any (λ m. test (g m)) (range_with_len (a + 1) n)) ≡ not (is_none (if b then Some zero else next (first test (each g (suc a) n))))
+    by true e = refl
+    by false e = e ∙ none_next (first test (each g (suc a) n))
 
 -- a search by a part of each element
 first_by : {A B : Type 0} (f : A → B) (test : B → Bool) (g : ℕ → A) (start n : ℕ) → first (λ a. test (f a)) (each g start n) ≡ first test (each (λ i. f (g i)) start n)
@@ -292,7 +255,6 @@ Ready LineWord.T words n = Open words n
 Ready LineWord.D words n = Open words n
 Ready LineWord.E words n = Open words n
 Ready LineWord.Q words n = Unit {0}
-Ready LineWord.Other words n = ⊥
 
 module _ (version : ℕ) (file words : List ℕ) (n : Counts) (count : ℕ) where
   abbrev with_modules : List Module → Index
@@ -311,4 +273,3 @@ module _ (version : ℕ) (file words : List ℕ) (n : Counts) (count : ℕ) wher
     where
       next_number : (k : ℕ) → k + 1 ≡ suc k
       next_number k = omega arith
-  row_added LineWord.Other ready = absurd ready

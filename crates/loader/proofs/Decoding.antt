@@ -101,7 +101,13 @@ module _ (first count list : ℕ) (low : first ≤ 2048) (is : list ≡ first + 
 
 -- ------------------------------------------------------------------ a value and its row
 
-pub record RowOf {A : Type 0} (read : Option A) (items : A → ℕ) (count : ℕ) (Few : Type 0) (row : A) : Type 0 where
+-- the record that was read is the row's, if there is room for its items
+pub record RowOf {A : Type 0} (value : A) (items : A → ℕ) (count : ℕ) (Few : Type 0) (row : A) : Type 0 where
+  pub counts : items value ≡ count
+  pub held : Few → value ≡ row
+
+-- of one that may not have been read
+pub record RowRead {A : Type 0} (read : Option A) (items : A → ℕ) (count : ℕ) (Few : Type 0) (row : A) : Type 0 where
   pub value : A
   pub is : read ≡ Some value
   pub counts : items value ≡ count
@@ -109,58 +115,57 @@ pub record RowOf {A : Type 0} (read : Option A) (items : A → ℕ) (count : ℕ
 
 module _ (file words t : List ℕ) (first : ℕ) (x : Tail) (low : first ≤ 2048) where
   abbrev Few : Type 0
-  Few = first + x.count ≤ max_items
+  Few = first + x.items.count ≤ max_items
 
   -- a list that was read, and the one that its word says
   module _ {s : Shape} (h : TailHeld file words s t first x) where
-    word_is : Few → x.list ≡ first + 65536 * x.count
+    word_is : Few → x.list ≡ first + 65536 * x.items.count
     word_is few = h.packed (omega arith)
 
-    pub list_within : Few → WithinItems (first + x.count) x.list
-    list_within few = within first x.count x.list low (word_is few)
+    pub list_within : Few → WithinItems (first + x.items.count) x.list
+    list_within few = within first x.items.count x.list low (word_is few)
 
     few_starts : Few → start_of x.list ≡ first
-    few_starts few = starts first x.count x.list low (word_is few)
+    few_starts few = starts first x.items.count x.list low (word_is few)
 
-    few_length : Few → length_of x.list ≡ x.count
-    few_length few = has_length first x.count x.list low (word_is few)
+    few_length : Few → length_of x.list ≡ x.items.count
+    few_length few = has_length first x.items.count x.list low (word_is few)
 
     nums_held : s.list ≡ Listed.Numbers → Few → nums h.list ≡ numbers_at words (start_of x.list) (length_of x.list)
     nums_held e few =
-        ap nums (h.held few ∙ ap (λ l. items_by l file words first x.count) e)
-        ∙ nums_by file words first x.count
+        ap nums (h.held few ∙ ap (λ l. items_by l file words first x.items.count) e)
+        ∙ nums_by file words first x.items.count
         ∙ ap₂ (numbers_at words) (sym (few_starts few)) (sym (few_length few))
 
     maybe_nums_held : s.list ≡ Listed.MaybeNumbers → Few → maybe_nums h.list ≡ links_at words (start_of x.list) (length_of x.list)
     maybe_nums_held e few =
-        ap maybe_nums (h.held few ∙ ap (λ l. items_by l file words first x.count) e)
-        ∙ maybe_nums_by file words first x.count
+        ap maybe_nums (h.held few ∙ ap (λ l. items_by l file words first x.items.count) e)
+        ∙ maybe_nums_by file words first x.items.count
         ∙ ap₂ (links_at words) (sym (few_starts few)) (sym (few_length few))
 
     fields_held : s.list ≡ Listed.Fields → Few → fields h.list ≡ names_with_types_at file words (start_of x.list) (length_of x.list)
     fields_held e few =
-        ap fields (h.held few ∙ ap (λ l. items_by l file words first x.count) e)
-        ∙ fields_by file words first x.count
+        ap fields (h.held few ∙ ap (λ l. items_by l file words first x.items.count) e)
+        ∙ fields_by file words first x.items.count
         ∙ ap₂ (names_with_types_at file words) (sym (few_starts few)) (sym (few_length few))
 
-    counted : {A : Type 0} (f : tails.Item → A) → length (map f h.list) ≡ x.count
+    counted : {A : Type 0} (f : tails.Item → A) → length (map f h.list) ≡ x.items.count
     counted f = length-map h.list f ∙ h.counts
 
   -- ---------------------------------------------------------------- T
 
-  pub type_row : (w : TypeWord) (h : TailHeld file words (type_shape w) t first x) → (type_number w ≡ 7 → ⊥)
-      → RowOf (type_as w (tail_by file (type_shape w) x h.list)) type_expr_items x.count Few (type_expr_by file words (type_number w) (parts x.a).low (parts x.b).low (last_word (type_shape w) x))
+  pub type_row : (w : TypeWord) (h : TailHeld file words (type_shape w) t first x)
+      → RowOf (type_as w (tail_by file (type_shape w) x h.list)) type_expr_items x.items.count Few (type_expr_by file words (type_number w) (parts x.a).low (parts x.b).low (last_word (type_shape w) x))
   unfolding type_as type_expr_items type_expr_by option_at
-  type_row TypeWord.Felt h known = record { value = TypeExpr.Felt; is = refl; counts = sym (h.none refl); held = λ few. refl }
-  type_row TypeWord.Bool h known = record { value = TypeExpr.Bool; is = refl; counts = sym (h.none refl); held = λ few. refl }
-  type_row TypeWord.U32 h known = record { value = TypeExpr.U32; is = refl; counts = sym (h.none refl); held = λ few. refl }
-  type_row TypeWord.Custom h known = record { value = _; is = refl; counts = sym (h.none refl); held = λ few. refl }
-  type_row TypeWord.Ptr h known = record { value = _; is = refl; counts = sym (h.none refl); held = λ few. refl }
-  type_row TypeWord.Tuple h known = record { value = _; is = refl; counts = counted h _; held = λ few. ap TypeExpr.Tuple (nums_held h refl few) }
-  type_row TypeWord.Array h known = record { value = _; is = refl; counts = sym (h.none refl); held = λ few. refl }
-  type_row TypeWord.Other h known = absurd (known refl)
+  type_row TypeWord.Felt h = record { counts = sym (h.none refl); held = λ few. refl }
+  type_row TypeWord.Bool h = record { counts = sym (h.none refl); held = λ few. refl }
+  type_row TypeWord.U32 h = record { counts = sym (h.none refl); held = λ few. refl }
+  type_row TypeWord.Custom h = record { counts = sym (h.none refl); held = λ few. refl }
+  type_row TypeWord.Ptr h = record { counts = sym (h.none refl); held = λ few. refl }
+  type_row TypeWord.Tuple h = record { counts = counted h _; held = λ few. ap TypeExpr.Tuple (nums_held h refl few) }
+  type_row TypeWord.Array h = record { counts = sym (h.none refl); held = λ few. refl }
 
-  pub type_listed : (w : TypeWord) → TailHeld file words (type_shape w) t first x → Few → type_number w ≡ 5 → WithinItems (first + x.count) (last_word (type_shape w) x)
+  pub type_listed : (w : TypeWord) → TailHeld file words (type_shape w) t first x → Few → type_number w ≡ 5 → WithinItems (first + x.items.count) (last_word (type_shape w) x)
   type_listed TypeWord.Felt h few e = omega arith
   type_listed TypeWord.Bool h few e = omega arith
   type_listed TypeWord.U32 h few e = omega arith
@@ -168,7 +173,6 @@ module _ (file words t : List ℕ) (first : ℕ) (x : Tail) (low : first ≤ 204
   type_listed TypeWord.Ptr h few e = omega arith
   type_listed TypeWord.Tuple h few e = list_within h few
   type_listed TypeWord.Array h few e = omega arith
-  type_listed TypeWord.Other h few e = omega arith
 
   -- ---------------------------------------------------------------- D
 
@@ -181,29 +185,28 @@ module _ (file words t : List ℕ) (first : ℕ) (x : Tail) (low : first ≤ 204
   let_of h = DefinitionKind.Let (maybe_num (linked (link_by (parts x.a).low))) (maybe_num (linked (link_by (parts x.b).low))) (maybe_num (linked (link_by (parts x.c).low))) (nums h.list)
 
   -- a let's path
-  path_held : {s : Shape} (h : TailHeld file words s t first x) → path_ok (maybe_num (linked (link_by (parts x.c).low))) (nums h.list) ≡ path_fits DefinitionWord.Let (parts x.c).low x.count
+  path_held : {s : Shape} (h : TailHeld file words s t first x) → path_ok (maybe_num (linked (link_by (parts x.c).low))) (nums h.list) ≡ path_fits DefinitionWord.Let (parts x.c).low x.items.count
   path_held h = path_is (parts x.c).low (nums h.list) ∙ ap (path_fits DefinitionWord.Let (parts x.c).low) (counted h _)
 
-  pub definition_kind_row : (w : DefinitionWord) (h : TailHeld file words (definition_shape w) t first x) → (definition_number w ≡ 7 → ⊥) → path_fits w (parts x.c).low x.count ≡ true
-      → RowOf (definition_as w (tail_by file (definition_shape w) x h.list)) kind_items x.count Few (definition_kind_by file words (definition_number w) (parts x.a).low (parts x.b).low (parts x.c).low x.list)
+  pub definition_kind_row : (w : DefinitionWord) (h : TailHeld file words (definition_shape w) t first x) → path_fits w (parts x.c).low x.items.count ≡ true
+      → RowRead (definition_as w (tail_by file (definition_shape w) x h.list)) kind_items x.items.count Few (definition_kind_by file words (definition_number w) (parts x.a).low (parts x.b).low (parts x.c).low x.list)
   unfolding definition_as kind_items definition_kind_by option_at
-  definition_kind_row DefinitionWord.Fn h known path = record { value = _; is = refl; counts = counted h _; held = λ few. ap (DefinitionKind.Function (parts x.a).low) (fields_held h refl few) }
-  definition_kind_row DefinitionWord.Struct h known path = record { value = _; is = refl; counts = counted h _; held = λ few. ap DefinitionKind.Struct (fields_held h refl few) }
-  definition_kind_row DefinitionWord.Const h known path =
+  definition_kind_row DefinitionWord.Fn h path = record { value = _; is = refl; counts = counted h _; held = λ few. ap (DefinitionKind.Function (parts x.a).low) (fields_held h refl few) }
+  definition_kind_row DefinitionWord.Struct h path = record { value = _; is = refl; counts = counted h _; held = λ few. ap DefinitionKind.Struct (fields_held h refl few) }
+  definition_kind_row DefinitionWord.Const h path =
       record { value = _; is = refl; counts = sym (h.none refl); held = λ few. ap₂ DefinitionKind.Const (linked_is (link_by (parts x.a).low)) (linked_is (link_by (parts x.b).low)) }
-  definition_kind_row DefinitionWord.Let h known path =
+  definition_kind_row DefinitionWord.Let h path =
       record {
         value = let_of h;
         is = ap (λ b. only_if b (let_of h)) (path_held h ∙ path);
         counts = counted h _;
         held = λ few. (λ i. DefinitionKind.Let (linked_is (link_by (parts x.a).low) i) (linked_is (link_by (parts x.b).low) i) (linked_is (link_by (parts x.c).low) i) (nums_held h refl few i));
       }
-  definition_kind_row DefinitionWord.Param h known path = record { value = _; is = refl; counts = sym (h.none refl); held = λ few. refl }
-  definition_kind_row DefinitionWord.Use h known path = record { value = _; is = refl; counts = sym (h.none refl); held = λ few. refl }
-  definition_kind_row DefinitionWord.Loop h known path = record { value = DefinitionKind.LoopVariable; is = refl; counts = sym (h.none refl); held = λ few. refl }
-  definition_kind_row DefinitionWord.Other h known path = absurd (known refl)
+  definition_kind_row DefinitionWord.Param h path = record { value = _; is = refl; counts = sym (h.none refl); held = λ few. refl }
+  definition_kind_row DefinitionWord.Use h path = record { value = _; is = refl; counts = sym (h.none refl); held = λ few. refl }
+  definition_kind_row DefinitionWord.Loop h path = record { value = DefinitionKind.LoopVariable; is = refl; counts = sym (h.none refl); held = λ few. refl }
 
-  pub definition_path_lost : (w : DefinitionWord) (h : TailHeld file words (definition_shape w) t first x) → path_fits w (parts x.c).low x.count ≡ false → definition_as w (tail_by file (definition_shape w) x h.list) ≡ None
+  pub definition_path_lost : (w : DefinitionWord) (h : TailHeld file words (definition_shape w) t first x) → path_fits w (parts x.c).low x.items.count ≡ false → definition_as w (tail_by file (definition_shape w) x h.list) ≡ None
   unfolding definition_as
   definition_path_lost DefinitionWord.Fn h path = absurd (false≢true (sym path))
   definition_path_lost DefinitionWord.Struct h path = absurd (false≢true (sym path))
@@ -212,7 +215,6 @@ module _ (file words t : List ℕ) (first : ℕ) (x : Tail) (low : first ≤ 204
   definition_path_lost DefinitionWord.Param h path = absurd (false≢true (sym path))
   definition_path_lost DefinitionWord.Use h path = absurd (false≢true (sym path))
   definition_path_lost DefinitionWord.Loop h path = absurd (false≢true (sym path))
-  definition_path_lost DefinitionWord.Other h path = refl
 
   -- ---------------------------------------------------------------- E
 
@@ -242,29 +244,28 @@ module _ (file words t : List ℕ) (first : ℕ) (x : Tail) (low : first ≤ 204
   binary_is (suc (suc (suc (suc (suc (suc (suc (suc (suc (suc (suc (suc (suc (suc (suc zero))))))))))))))) = refl
   binary_is (suc (suc (suc (suc (suc (suc (suc (suc (suc (suc (suc (suc (suc (suc (suc (suc n)))))))))))))))) = refl
 
-  pub node_row : (w : NodeWord) (h : TailHeld file words (node_shape w) t first x) → (node_number w ≡ 16 → ⊥)
-      → RowOf (node_as w (tail_by file (node_shape w) x h.list)) node_items x.count Few (expression_by file words (node_number w) (parts x.a).low (parts x.b).low (last_word (node_shape w) x))
+  pub node_row : (w : NodeWord) (h : TailHeld file words (node_shape w) t first x)
+      → RowOf (node_as w (tail_by file (node_shape w) x h.list)) node_items x.items.count Few (expression_by file words (node_number w) (parts x.a).low (parts x.b).low (last_word (node_shape w) x))
   unfolding node_as node_items expression_by option_at
-  node_row NodeWord.Lit h known = record { value = _; is = refl; counts = sym (h.none refl); held = λ few. ap Expression.Literal (named_is (suffix_by file (parts x.a).low)) }
-  node_row NodeWord.Bool h known = record { value = Expression.BooleanLiteral; is = refl; counts = sym (h.none refl); held = λ few. refl }
-  node_row NodeWord.Ident h known = record { value = _; is = refl; counts = sym (h.none refl); held = λ few. refl }
-  node_row NodeWord.Un h known = record { value = _; is = refl; counts = sym (h.none refl); held = λ few. ap₂ Expression.Unary (unary_is (parts x.a).low) (linked_is (link_by (parts x.b).low)) }
-  node_row NodeWord.Bin h known =
-      record { value = _; is = refl; counts = sym (h.none refl); held = λ few. (λ i. Expression.Binary (binary_is (parts x.a).low i) (linked_is (link_by (parts x.b).low) i) (linked_is (link_by (parts x.c).low) i)) }
-  node_row NodeWord.Call h known = record { value = _; is = refl; counts = counted h _; held = λ few. ap₂ Expression.FunctionCall (linked_is (link_by (parts x.a).low)) (maybe_nums_held h refl few) }
-  node_row NodeWord.Member h known = record { value = _; is = refl; counts = sym (h.none refl); held = λ few. ap (λ e. Expression.MemberAccess e (name_by file (parts x.b).low)) (linked_is (link_by (parts x.a).low)) }
-  node_row NodeWord.Index h known = record { value = _; is = refl; counts = sym (h.none refl); held = λ few. ap₂ Expression.IndexAccess (linked_is (link_by (parts x.a).low)) (linked_is (link_by (parts x.b).low)) }
-  node_row NodeWord.Slit h known = record { value = _; is = refl; counts = sym (h.none refl); held = λ few. refl }
-  node_row NodeWord.Tuple h known = record { value = _; is = refl; counts = counted h _; held = λ few. ap Expression.Tuple (maybe_nums_held h refl few) }
-  node_row NodeWord.Tidx h known = record { value = _; is = refl; counts = sym (h.none refl); held = λ few. ap (λ e. Expression.TupleIndex e (parts x.b).low) (linked_is (link_by (parts x.a).low)) }
-  node_row NodeWord.Arr h known = record { value = _; is = refl; counts = counted h _; held = λ few. ap Expression.ArrayLiteral (maybe_nums_held h refl few) }
-  node_row NodeWord.Rep h known = record { value = _; is = refl; counts = sym (h.none refl); held = λ few. ap (λ e. Expression.ArrayRepeat e (size_by (parts x.b).low (parts x.b).high)) (linked_is (link_by (parts x.a).low)) }
-  node_row NodeWord.Cast h known = record { value = _; is = refl; counts = sym (h.none refl); held = λ few. refl }
-  node_row NodeWord.New h known = record { value = _; is = refl; counts = sym (h.none refl); held = λ few. ap (Expression.New (parts x.a).low) (linked_is (link_by (parts x.b).low)) }
-  node_row NodeWord.Paren h known = record { value = _; is = refl; counts = sym (h.none refl); held = λ few. ap Expression.Parenthesized (linked_is (link_by (parts x.a).low)) }
-  node_row NodeWord.Other h known = absurd (known refl)
+  node_row NodeWord.Lit h = record { counts = sym (h.none refl); held = λ few. ap Expression.Literal (named_is (suffix_by file (parts x.a).low)) }
+  node_row NodeWord.Bool h = record { counts = sym (h.none refl); held = λ few. refl }
+  node_row NodeWord.Ident h = record { counts = sym (h.none refl); held = λ few. refl }
+  node_row NodeWord.Un h = record { counts = sym (h.none refl); held = λ few. ap₂ Expression.Unary (unary_is (parts x.a).low) (linked_is (link_by (parts x.b).low)) }
+  node_row NodeWord.Bin h =
+      record { counts = sym (h.none refl); held = λ few. (λ i. Expression.Binary (binary_is (parts x.a).low i) (linked_is (link_by (parts x.b).low) i) (linked_is (link_by (parts x.c).low) i)) }
+  node_row NodeWord.Call h = record { counts = counted h _; held = λ few. ap₂ Expression.FunctionCall (linked_is (link_by (parts x.a).low)) (maybe_nums_held h refl few) }
+  node_row NodeWord.Member h = record { counts = sym (h.none refl); held = λ few. ap (λ e. Expression.MemberAccess e (name_by file (parts x.b).low)) (linked_is (link_by (parts x.a).low)) }
+  node_row NodeWord.Index h = record { counts = sym (h.none refl); held = λ few. ap₂ Expression.IndexAccess (linked_is (link_by (parts x.a).low)) (linked_is (link_by (parts x.b).low)) }
+  node_row NodeWord.Slit h = record { counts = sym (h.none refl); held = λ few. refl }
+  node_row NodeWord.Tuple h = record { counts = counted h _; held = λ few. ap Expression.Tuple (maybe_nums_held h refl few) }
+  node_row NodeWord.Tidx h = record { counts = sym (h.none refl); held = λ few. ap (λ e. Expression.TupleIndex e (parts x.b).low) (linked_is (link_by (parts x.a).low)) }
+  node_row NodeWord.Arr h = record { counts = counted h _; held = λ few. ap Expression.ArrayLiteral (maybe_nums_held h refl few) }
+  node_row NodeWord.Rep h = record { counts = sym (h.none refl); held = λ few. ap (λ e. Expression.ArrayRepeat e (size_by (parts x.b).low (parts x.b).high)) (linked_is (link_by (parts x.a).low)) }
+  node_row NodeWord.Cast h = record { counts = sym (h.none refl); held = λ few. refl }
+  node_row NodeWord.New h = record { counts = sym (h.none refl); held = λ few. ap (Expression.New (parts x.a).low) (linked_is (link_by (parts x.b).low)) }
+  node_row NodeWord.Paren h = record { counts = sym (h.none refl); held = λ few. ap Expression.Parenthesized (linked_is (link_by (parts x.a).low)) }
 
-  pub node_listed : (w : NodeWord) → TailHeld file words (node_shape w) t first x → Few → ListedNode (first + x.count) (node_number w) (last_word (node_shape w) x)
+  pub node_listed : (w : NodeWord) → TailHeld file words (node_shape w) t first x → Few → ListedNode (first + x.items.count) (node_number w) (last_word (node_shape w) x)
   node_listed NodeWord.Lit h few = omega arith
   node_listed NodeWord.Bool h few = omega arith
   node_listed NodeWord.Ident h few = omega arith
@@ -281,105 +282,39 @@ module _ (file words t : List ℕ) (first : ℕ) (x : Tail) (low : first ≤ 204
   node_listed NodeWord.Cast h few = omega arith
   node_listed NodeWord.New h few = omega arith
   node_listed NodeWord.Paren h few = omega arith
-  node_listed NodeWord.Other h few = omega arith
 
-  pub definition_listed : {s : Shape} (k : ℕ) → TailHeld file words s t first x → Few → k ≤ 3 → WithinItems (first + x.count) x.list
+  pub definition_listed : {s : Shape} (k : ℕ) → TailHeld file words s t first x → Few → k ≤ 3 → WithinItems (first + x.items.count) x.list
   definition_listed k h few e = list_within h few
 
   -- ---------------------------------------------------------------- Q
 
-  pub question_row_is : (w : QuestionWord) (h : TailHeld file words (question_shape w) t first x) → (question_number w ≡ 4 → ⊥)
-      → question_as w (tail_by file (question_shape w) x h.list) ≡ Some (question_by (question_number w) (parts x.a).low (parts x.b).low (parts x.c).low)
+  pub question_row_is : (w : QuestionWord) (h : TailHeld file words (question_shape w) t first x)
+      → question_as w (tail_by file (question_shape w) x h.list) ≡ question_by (question_number w) (parts x.a).low (parts x.b).low (parts x.c).low
   unfolding question_as question_by option_at
-  question_row_is QuestionWord.Expr h known = ap (λ o. Some (Question.expr (parts x.a).low (parts x.b).low o)) (linked_is (link_by (parts x.c).low))
-  question_row_is QuestionWord.Def h known = refl
-  question_row_is QuestionWord.OfType h known = refl
-  question_row_is QuestionWord.At h known = refl
-  question_row_is QuestionWord.Other h known = absurd (known refl)
+  question_row_is QuestionWord.Expr h = ap (Question.expr (parts x.a).low (parts x.b).low) (linked_is (link_by (parts x.c).low))
+  question_row_is QuestionWord.Def h = refl
+  question_row_is QuestionWord.OfType h = refl
+  question_row_is QuestionWord.At h = refl
 
   -- no question has a list
-  pub question_none : (w : QuestionWord) → TailHeld file words (question_shape w) t first x → x.count ≡ 0
+  pub question_none : (w : QuestionWord) → TailHeld file words (question_shape w) t first x → x.items.count ≡ 0
   question_none QuestionWord.Expr h = h.none refl
   question_none QuestionWord.Def h = h.none refl
   question_none QuestionWord.OfType h = h.none refl
   question_none QuestionWord.At h = h.none refl
-  question_none QuestionWord.Other h = h.none refl
-
--- ------------------------------------------------------------------ no word of the place
-
-pub type_other : (w : TypeWord) (x : tails.Tail) → type_number w ≡ 7 → type_as w x ≡ None
-unfolding type_as
-type_other TypeWord.Felt x e = absurd (omega arith)
-type_other TypeWord.Bool x e = absurd (omega arith)
-type_other TypeWord.U32 x e = absurd (omega arith)
-type_other TypeWord.Custom x e = absurd (omega arith)
-type_other TypeWord.Ptr x e = absurd (omega arith)
-type_other TypeWord.Tuple x e = absurd (omega arith)
-type_other TypeWord.Array x e = absurd (omega arith)
-type_other TypeWord.Other x e = refl
-
-pub definition_other : (w : DefinitionWord) (x : tails.Tail) → definition_number w ≡ 7 → definition_as w x ≡ None
-unfolding definition_as
-definition_other DefinitionWord.Fn x e = absurd (omega arith)
-definition_other DefinitionWord.Struct x e = absurd (omega arith)
-definition_other DefinitionWord.Const x e = absurd (omega arith)
-definition_other DefinitionWord.Let x e = absurd (omega arith)
-definition_other DefinitionWord.Param x e = absurd (omega arith)
-definition_other DefinitionWord.Use x e = absurd (omega arith)
-definition_other DefinitionWord.Loop x e = absurd (omega arith)
-definition_other DefinitionWord.Other x e = refl
-
-pub origin_other : (w : OriginWord) (x : tails.Three) → origin_number w ≡ 6 → origin_as w x ≡ None
-unfolding origin_as
-origin_other OriginWord.Plain x e = absurd (omega arith)
-origin_other OriginWord.Field x e = absurd (omega arith)
-origin_other OriginWord.Arg x e = absurd (omega arith)
-origin_other OriginWord.Assign x e = absurd (omega arith)
-origin_other OriginWord.Return x e = absurd (omega arith)
-origin_other OriginWord.Cond x e = absurd (omega arith)
-origin_other OriginWord.Other x e = refl
-
-pub node_other : (w : NodeWord) (x : tails.Tail) → node_number w ≡ 16 → node_as w x ≡ None
-unfolding node_as
-node_other NodeWord.Lit x e = absurd (omega arith)
-node_other NodeWord.Bool x e = absurd (omega arith)
-node_other NodeWord.Ident x e = absurd (omega arith)
-node_other NodeWord.Un x e = absurd (omega arith)
-node_other NodeWord.Bin x e = absurd (omega arith)
-node_other NodeWord.Call x e = absurd (omega arith)
-node_other NodeWord.Member x e = absurd (omega arith)
-node_other NodeWord.Index x e = absurd (omega arith)
-node_other NodeWord.Slit x e = absurd (omega arith)
-node_other NodeWord.Tuple x e = absurd (omega arith)
-node_other NodeWord.Tidx x e = absurd (omega arith)
-node_other NodeWord.Arr x e = absurd (omega arith)
-node_other NodeWord.Rep x e = absurd (omega arith)
-node_other NodeWord.Cast x e = absurd (omega arith)
-node_other NodeWord.New x e = absurd (omega arith)
-node_other NodeWord.Paren x e = absurd (omega arith)
-node_other NodeWord.Other x e = refl
-
-pub question_other : (w : QuestionWord) (x : tails.Tail) → question_number w ≡ 4 → question_as w x ≡ None
-unfolding question_as
-question_other QuestionWord.Expr x e = absurd (omega arith)
-question_other QuestionWord.Def x e = absurd (omega arith)
-question_other QuestionWord.OfType x e = absurd (omega arith)
-question_other QuestionWord.At x e = absurd (omega arith)
-question_other QuestionWord.Other x e = refl
 
 -- ------------------------------------------------------------------ origins and scopes
 
-pub origin_row_is : (file : Text) (w : OriginWord) (a b c : Words) (rest : Text) → (origin_number w ≡ 6 → ⊥)
+pub origin_row_is : (file : Text) (w : OriginWord) (a b c : Words) (rest : Text)
     → origin_as w (record { a = value_by (origin_shape w).a file a; b = value_by (origin_shape w).b file b; c = value_by Kind.Nothing file c; rest = rest })
-    ≡ Some (origin_by file (origin_number w) a.low b.low)
+    ≡ origin_by file (origin_number w) a.low b.low
 unfolding origin_as origin_by option_at
-origin_row_is file OriginWord.Plain a b c rest known = refl
-origin_row_is file OriginWord.Field a b c rest known = refl
-origin_row_is file OriginWord.Arg a b c rest known = refl
-origin_row_is file OriginWord.Assign a b c rest known = refl
-origin_row_is file OriginWord.Return a b c rest known = refl
-origin_row_is file OriginWord.Cond a b c rest known = refl
-origin_row_is file OriginWord.Other a b c rest known = absurd (known refl)
+origin_row_is file OriginWord.Plain a b c rest = refl
+origin_row_is file OriginWord.Field a b c rest = refl
+origin_row_is file OriginWord.Arg a b c rest = refl
+origin_row_is file OriginWord.Assign a b c rest = refl
+origin_row_is file OriginWord.Return a b c rest = refl
+origin_row_is file OriginWord.Cond a b c rest = refl
 
 pub scope_row_is : (w : ScopeWord) (parent : ℕ) → scope_fits parent w ≡ true → scope_as (maybe_num (linked (link_by parent))) w ≡ Some (record { parent = link_by parent; kind = scope_kind_by (scope_number w) })
 unfolding scope_as scope_kind_by option_at
@@ -391,8 +326,6 @@ scope_row_is ScopeWord.Block zero e = absurd (false≢true e)
 scope_row_is ScopeWord.Block (suc p) e = refl
 scope_row_is ScopeWord.Loop zero e = absurd (false≢true e)
 scope_row_is ScopeWord.Loop (suc p) e = refl
-scope_row_is ScopeWord.Other zero e = absurd (false≢true e)
-scope_row_is ScopeWord.Other (suc p) e = absurd (false≢true e)
 
 pub scope_lost : (w : ScopeWord) (parent : ℕ) → scope_fits parent w ≡ false → scope_as (maybe_num (linked (link_by parent))) w ≡ None
 unfolding scope_as
@@ -404,21 +337,18 @@ scope_lost ScopeWord.Block zero e = refl
 scope_lost ScopeWord.Block (suc p) e = absurd (false≢true (sym e ∙ ap not (positive p)))
 scope_lost ScopeWord.Loop zero e = refl
 scope_lost ScopeWord.Loop (suc p) e = absurd (false≢true (sym e ∙ ap not (positive p)))
-scope_lost ScopeWord.Other zero e = refl
-scope_lost ScopeWord.Other (suc p) e = refl
 
 -- ------------------------------------------------------------------ the numbers of words
 
-pub origin_small : (w : OriginWord) → (origin_number w ≡ 6 → ⊥) → origin_number w ≤ 5
-origin_small OriginWord.Plain known = omega arith
-origin_small OriginWord.Field known = omega arith
-origin_small OriginWord.Arg known = omega arith
-origin_small OriginWord.Assign known = omega arith
-origin_small OriginWord.Return known = omega arith
-origin_small OriginWord.Cond known = omega arith
-origin_small OriginWord.Other known = absurd (known refl)
+pub origin_small : (w : OriginWord) → origin_number w ≤ 5
+origin_small OriginWord.Plain = omega arith
+origin_small OriginWord.Field = omega arith
+origin_small OriginWord.Arg = omega arith
+origin_small OriginWord.Assign = omega arith
+origin_small OriginWord.Return = omega arith
+origin_small OriginWord.Cond = omega arith
 
-pub node_small : (w : NodeWord) → node_number w ≤ 16
+pub node_small : (w : NodeWord) → node_number w ≤ 15
 node_small NodeWord.Lit = omega arith
 node_small NodeWord.Bool = omega arith
 node_small NodeWord.Ident = omega arith
@@ -435,4 +365,3 @@ node_small NodeWord.Rep = omega arith
 node_small NodeWord.Cast = omega arith
 node_small NodeWord.New = omega arith
 node_small NodeWord.Paren = omega arith
-node_small NodeWord.Other = omega arith

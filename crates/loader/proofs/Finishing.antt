@@ -1,14 +1,14 @@
 -- All lines one after the other, and the words that end the index. Assumes nothing.
 use Prim.Native.Nat.{ℕ, suc, ◌+◌, ◌-◌, ◌*◌, ◌≤◌, ◌<◌}
 use mathlib.Core.Path.{◌≡◌, refl, sym, ap, ap₂, subst, ◌∙◌}
-use mathlib.Core.Logic.{inl}
 use mathlib.Core.List.{List, [], ◌∷◌, map}
 use mathlib.Core.Bool.{Bool, true, false}
 use native.Mathlib.Nat.{not-suc-le-zero}
 use native.Mathlib.Omega.{arith}
 use lib.Dec.{eqb}
 use lib.ListN.{length, drop, length-append, length-map, drop_of_length-le}
-use Rattle.std.specs.Prelude.{if◌then◌else◌}
+use Rattle.std.specs.Prelude.{if◌then◌else◌, Result, Ok, Err, IfErr}
+use Rattle.std.specs.Result.{IsErrAnd, MatchResult}
 use Rattle.model.specs.Common.{Text, is_empty, total}
 use Rattle.model.specs.Limits.{scope_count, type_expr_count, definition_count, expression_count, item_count}
 use Rattle.model.specs.Records.{Module, Index}
@@ -17,14 +17,16 @@ use Rattle.format.specs.FirstPass.{Seen, refuse, go, step_on, First, read, wrong
 use Rattle.format.specs.LinkCheck.{question_linked, module_lines, modules_lines, linked_lines}
 use Rattle.format.proofs.Enough.{step_shorter, lines_enough}
 use Rattle.words.proofs.Bytes.{here}
-use Rattle.records.specs.Layout.{word, each, module_place, scope_row, type_expr_row, definition_row, expression_row, question_row, scope_rows, type_expr_rows, definition_rows, expression_rows, begin_of, end_of, rows_of, module_row, index_of}
-use Rattle.records.specs.Promises.{Put}
+use Rattle.records.specs.Layout.{word, each, scope_row, type_expr_row, definition_row, expression_row, question_row, scope_rows, type_expr_rows, definition_rows, expression_rows, begin_of, end_of, rows_of, module_row, index_of}
 use Rattle.records.proofs.Lists.{each_same}
-use Rattle.loader.specs.State.{rows_so_far, module_by, module_so_far, index_so_far, seen_as, Fine}
-use Rattle.loader.specs.Steps.{name_at, Good}
-use Rattle.loader.specs.Pass.{Finished, AllRead}
+use Rattle.loader.specs.State.{rows_so_far, module_by, module_so_far, index_so_far, seen_as}
+use Rattle.loader.specs.Steps.{name_at, Good, step_is}
+use Rattle.loader.specs.Pass.{Finished, AllRead, FirstIs}
+use Rattle.refusals.specs.declared.FileRefusal.{FileRefusal}
+use Rattle.refusals.specs.declared.FileRefused.{FileRefused}
+use Rattle.refusals.specs.Numbers.{file_refusal_number}
+use Rattle.loader.specs.declared.lines.Next.{Next}
 use Rattle.loader.specs.declared.rows.Counts.{Counts}
-use Rattle.loader.proofs.Leaving.{left_then, put_left, Apart}
 use Rattle.links.proofs.Modules.{module_lines_length}
 use Rattle.loader.proofs.Advancing.{module_with}
 use Rattle.loader.proofs.Keeping.{modules_many, questions_many}
@@ -103,37 +105,6 @@ module _ (line : ℕ) (s : Seen) (file : Text) (at : ℕ) where
 
 -- ------------------------------------------------------------------ the words that end the index
 
-pub finish_put : {file words words₁ words₂ : List ℕ} (n : Counts) (version : ℕ) → Fine file words n
-    → Put words 0 (n.modules ∷ n.questions ∷ n.items ∷ version ∷ []) words₁
-    → Put words₁ (module_place n.modules + 1) (n.scopes ∷ n.types ∷ n.definitions ∷ n.expressions ∷ []) words₂ → Finished words n version words₂
-finish_put {file} {words} {words₁} {words₂} n version fine header row =
-    record {
-      left = left_then (put_left apart_header header) (put_left apart_row row);
-      modules = kept 0 (omega arith) ∙ header.inside 0 (omega arith);
-      questions = kept 1 (omega arith) ∙ header.inside 1 (omega arith);
-      items = kept 2 (omega arith) ∙ header.inside 2 (omega arith);
-      version_put = kept 3 (omega arith) ∙ header.inside 3 (omega arith);
-      ends =
-          record {
-            scopes = at 0 (omega arith) scope_rows refl;
-            types = at 1 (omega arith) type_expr_rows refl;
-            definitions = at 2 (omega arith) definition_rows refl;
-            expressions = at 3 (omega arith) expression_rows refl;
-          };
-    }
-  where
-    apart_header : Apart n 0 4
-    apart_header = omega (arith, fine)
-
-    apart_row : Apart n (module_place n.modules + 1) 4
-    apart_row = omega (arith, fine)
-
-    kept : (i : ℕ) → i < 4 → word words₂ i ≡ word words₁ (0 + i)
-    kept i h = row.outside i (inl (omega arith)) ∙ ap (word words₁) (omega arith)
-
-    at : (i : ℕ) → i < 4 → (k : ℕ) → k ≡ i + 1 → begin_of words₂ n.modules k ≡ word (n.scopes ∷ n.types ∷ n.definitions ∷ n.expressions ∷ []) i
-    at i h k e = ap (word words₂) (omega (arith, e)) ∙ row.inside i h
-
 -- a module's rows end where the next ones begin
 module _ {A : Type 0} (row : ℕ → A) (words : List ℕ) (modules k total : ℕ) (ends : begin_of words modules k ≡ total) where
   rows_ended : (i : ℕ) → i < modules → rows_of row words i k ≡ rows_so_far row total modules words i k
@@ -199,3 +170,28 @@ all_read version {file} {words} {words'} n t good f e =
       items = f.items ∙ sym (good.counted version).items ∙ ap item_count (sym same);
       few_lines = subst (λ index. length (linked_lines index) ≤ 1672) (sym same) (few_lines version n good);
     }
+
+-- ------------------------------------------------------------------ a refusal with its line
+
+-- a `map_err` that gave a value had it from what it was given
+pub mapped_ok : {A E D : Type 0} (P : E → D → Type 0) (r : Result A E) {m : Result A D} {x : A} → MatchResult r (λ y. m ≡ Ok y) (λ e. IsErrAnd m (P e)) → m ≡ Ok x → r ≡ Ok x
+mapped_ok {A} {E} {D} P (Ok y) h e = ap again (sym h ∙ e)
+  where
+    again : Result A D → Result A E
+    again (Ok x) = Ok x
+    again (Err d) = Ok y
+mapped_ok P (Err e₁) h e = absurd (subst (λ k. IsErrAnd k (P e₁)) e h)
+
+-- where a step is refused, the pass is, with the line
+pub first_lost : (P : FileRefusal → FileRefused → Type 0) (version : ℕ) (file words words' : List ℕ) (n : Counts) (line at : ℕ) (t : Text) → at < length file
+    → first_pass version t ≡ lines_from line (seen_as version file words n) (drop at file)
+    → (r : Result Next FileRefusal) → step_is version file words' r ≡ step_on (seen_as version file words n) (drop at file)
+    → {m : Result Next FileRefused} → MatchResult r (λ y. m ≡ Ok y) (λ e. IsErrAnd m (P e)) → (d : FileRefused) → m ≡ Err d
+    → ((e : FileRefusal) (x : FileRefused) → P e x → x ≡ record { refusal = e; line = line })
+    → (last : Result (Unit {0}) FileRefused) → IsErrAnd last (λ x. x ≡ d) → FirstIs file words' version t last
+first_lost P version file words words' n line at t inside so_far (Ok y) step h d e made last is_d = absurd (subst (λ k. IfErr k (λ x. ⊥)) (sym h ∙ e) tt)
+first_lost P version file words words' n line at t inside so_far (Err k) step h d e made (Ok u) is_d = absurd is_d
+first_lost P version file words words' n line at t inside so_far (Err k) step h d e made (Err x) is_d =
+    so_far
+    ∙ pass_refused line (seen_as version file words n) file at inside (file_refusal_number k) (sym step)
+    ∙ ap (λ o. wrong (file_refusal_number o.refusal) o.line) (sym (is_d ∙ made k d (subst (λ o. IsErrAnd o (P k)) e h)))

@@ -22,6 +22,7 @@ use Rattle.fields.specs.declared.Value as held
 use Rattle.fields.specs.declared.Slot.{Slot}
 use Rattle.fields.specs.Held.{value_is, slot_is}
 use Rattle.fields.proofs.Slots.{slot_found}
+use Rattle.loader.specs.declared.values.FieldWords.{FieldWords}
 use Rattle.loader.specs.Values.{parts, linked, named, value_by, is_link, slot_words_is}
 
 -- ------------------------------------------------------------------ what a field of a kind can hold
@@ -310,9 +311,9 @@ module _ (s t : Text) (k : Kind) (r : Option Slot) (q : slot_is s r ≡ slot k t
   words_held w h same =
       sym (slot_found s t k r q f found ∙ ap (λ x. Some (record { value = x; rest = drop f.end s })) (ap (value_is s) h ∙ same))
 
-module _ (s t : Text) (k : Kind) (r : Option (ℕ × ℕ)) (q : slot_words_is k s r ≡ slot k t) where
-  pub words_found : (w e : ℕ) → r ≡ Some (w, e) → slot k t ≡ Some (record { value = value_by k s (parts w); rest = drop e s })
-  words_found w e h = sym q ∙ ap (slot_words_is k s) h
+module _ (s t : Text) (k : Kind) (r : Option FieldWords) (q : slot_words_is k s r ≡ slot k t) where
+  pub words_found : (x : FieldWords) → r ≡ Some x → slot k t ≡ Some (record { value = value_by k s (parts x.words); rest = drop x.end s })
+  words_found x h = sym q ∙ ap (slot_words_is k s) h
 
   pub words_lost : r ≡ None → slot k t ≡ None
   words_lost h = sym q ∙ ap (slot_words_is k s) h

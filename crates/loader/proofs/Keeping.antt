@@ -2,7 +2,7 @@
 use Prim.Native.Nat.{ℕ, zero, suc, ◌+◌, ◌≤◌, ◌<◌}
 use mathlib.Core.Path.{◌≡◌, refl, sym, ap, ap₂, subst, ◌∙◌}
 use mathlib.Core.List.{List, [], ◌∷◌, ◌++◌}
-use mathlib.Core.Bool.{true, ◌&&◌, false≢true}
+use mathlib.Core.Bool.{true, ◌&&◌}
 use native.Mathlib.Nat.{not-suc-le-zero}
 use native.Mathlib.Omega.{arith}
 use lib.Dec.{leb, ltb}
@@ -20,6 +20,7 @@ use Rattle.records.proofs.Lists.{each_length}
 use Rattle.loader.specs.State.{module_so_far, index_so_far, row_entry, BeginsAt, Begins, Left, Fine, HasRoom, counts_after, has_room}
 use Rattle.loader.specs.Lines.{LineHeld}
 use Rattle.loader.specs.Steps.{Counted, BeginsWithin, Good}
+use Rattle.loader.specs.declared.items.ItemsRead.{ItemsRead}
 use Rattle.loader.specs.declared.rows.Counts.{Counts}
 use Rattle.loader.proofs.Leaving.{left_then, left_fewer, fewer_after}
 use Rattle.loader.proofs.Advancing.{Open, Ready, row_added}
@@ -137,7 +138,6 @@ module _ (n : Counts) (index : Index) (c : Counted n index) where
   counted_row file words LineWord.D count many ready e = counted_definition (omega (arith, many, ready.is_last)) _ count e
   counted_row file words LineWord.E count many ready e = counted_expression (omega (arith, many, ready.is_last)) _ count e
   counted_row file words LineWord.Q count many ready e = counted_question _ count e
-  counted_row file words LineWord.Other count many ready e = absurd ready
 
 -- ------------------------------------------------------------------ room for a line
 
@@ -158,7 +158,6 @@ module _ (version : ℕ) {file words : List ℕ} (n : Counts) (good : Good file 
   room_is LineWord.D = ap (λ k. ltb k 256) (good.counted version).definitions
   room_is LineWord.E = ap (λ k. ltb k 512) (good.counted version).expressions
   room_is LineWord.Q = ap (λ k. ltb k 256) (each_length (question_row words) 0 n.questions)
-  room_is LineWord.Other = refl
 
 pub has_room_for : (w : LineWord) (n : Counts) → has_room w n ≡ true → HasRoom w n
 has_room_for LineWord.M n e = ltb_lt n.modules 8 e
@@ -167,7 +166,6 @@ has_room_for LineWord.T n e = ltb_lt n.types 512 e
 has_room_for LineWord.D n e = ltb_lt n.definitions 256 e
 has_room_for LineWord.E n e = ltb_lt n.expressions 512 e
 has_room_for LineWord.Q n e = ltb_lt n.questions 256 e
-has_room_for LineWord.Other n e = tt
 
 -- ------------------------------------------------------------------ what a line stands on
 
@@ -202,7 +200,6 @@ module _ (words words' : List ℕ) where
   ready_left LineWord.D n count left o = open_left n n.modules (omega arith) left.modules o
   ready_left LineWord.E n count left o = open_left n n.modules (omega arith) left.modules o
   ready_left LineWord.Q n count left o = tt
-  ready_left LineWord.Other n count left o = o
 
 -- a line in its place has a module before it
 module _ {file words : List ℕ} (n : Counts) (good : Good file words n) where
@@ -229,12 +226,11 @@ module _ {file words : List ℕ} (n : Counts) (good : Good file words n) where
   ready_here LineWord.D e b = open_here 4 (omega arith) e
   ready_here LineWord.E e b = open_here 5 (omega arith) e
   ready_here LineWord.Q e b = tt
-  ready_here LineWord.Other e b = absurd (false≢true e)
 
 -- ------------------------------------------------------------------ behind a line
 
-module _ {file words words' : List ℕ} (n : Counts) (good : Good file words n) (w : LineWord) (t : Text) (count end : ℕ) (room : HasRoom w n)
-    (left : Left n words words') (line : LineHeld w file words' n t count end) (few : n.items + count ≤ max_items) where
+module _ {file words words' : List ℕ} (n : Counts) (good : Good file words n) (w : LineWord) (t : Text) (read : ItemsRead) (room : HasRoom w n)
+    (left : Left n words words') (line : LineHeld w file words' n t read) (few : n.items + read.count ≤ max_items) where
   -- the index so far is left
   pub same_index : (version : ℕ) → index_so_far version file words' n ≡ index_so_far version file words n
   same_index version = good.steady version words' left
@@ -256,12 +252,11 @@ module _ {file words words' : List ℕ} (n : Counts) (good : Good file words n) 
         of LineWord.D e b = opened (ready_here n good LineWord.D e tt)
         of LineWord.E e b = opened (ready_here n good LineWord.E e tt)
         of LineWord.Q e b = tt
-        of LineWord.Other e b = absurd (false≢true e)
 
-    pub index_after : (version : ℕ) → index_so_far version file words' (counts_after w n count) ≡ add line.entry (index_so_far version file words n)
-    index_after version = row_added version file words' n count w ready ∙ ap₂ add (sym entry_is) (same_index version)
+    pub index_after : (version : ℕ) → index_so_far version file words' (counts_after w n read.count) ≡ add line.entry (index_so_far version file words n)
+    index_after version = row_added version file words' n read.count w ready ∙ ap₂ add (sym entry_is) (same_index version)
 
-    fine_after : Fine file words' (counts_after w n count)
+    fine_after : Fine file words' (counts_after w n read.count)
     fine_after = of w room
       where
         f : Fine file words n
@@ -270,27 +265,26 @@ module _ {file words words' : List ℕ} (n : Counts) (good : Good file words n) 
         long : length words' ≡ 16384
         long = left.long ∙ f.room
 
-        of : (v : LineWord) → HasRoom v n → Fine file words' (counts_after v n count)
+        of : (v : LineWord) → HasRoom v n → Fine file words' (counts_after v n read.count)
         of LineWord.M r = omega (arith, f, long, few, r)
         of LineWord.S r = omega (arith, f, long, few, r)
         of LineWord.T r = omega (arith, f, long, few, r)
         of LineWord.D r = omega (arith, f, long, few, r)
         of LineWord.E r = omega (arith, f, long, few, r)
         of LineWord.Q r = omega (arith, f, long, few, r)
-        of LineWord.Other r = omega (arith, f, long, few)
 
-    counted_after : (version : ℕ) → Counted (counts_after w n count) (index_so_far version file words' (counts_after w n count))
+    counted_after : (version : ℕ) → Counted (counts_after w n read.count) (index_so_far version file words' (counts_after w n read.count))
     counted_after version =
-        subst (Counted (counts_after w n count)) (sym (index_after version ∙ ap (λ e. add e (index_so_far version file words n)) entry_is))
-        (counted_row n (index_so_far version file words n) (good.counted version) file words' w count (modules_many version n good) ready (ap entry_items (sym entry_is) ∙ line.counts))
+        subst (Counted (counts_after w n read.count)) (sym (index_after version ∙ ap (λ e. add e (index_so_far version file words n)) entry_is))
+        (counted_row n (index_so_far version file words n) (good.counted version) file words' w read.count (modules_many version n good) ready (ap entry_items (sym entry_is) ∙ line.counts))
 
-    begun_after : (m : ℕ) → (counts_after w n count).modules ≡ suc m → BeginsWithin words' m (counts_after w n count)
+    begun_after : (m : ℕ) → (counts_after w n read.count).modules ≡ suc m → BeginsWithin words' m (counts_after w n read.count)
     begun_after = of w ready
       where
         -- the module is an older one
-        older : (v : LineWord) → (m : ℕ) → n.modules ≡ suc m → BeginsWithin words' m (counts_after v n count)
+        older : (v : LineWord) → (m : ℕ) → n.modules ≡ suc m → BeginsWithin words' m (counts_after v n read.count)
         older v m q =
-            let f = fewer_after v n count in
+            let f = fewer_after v n read.count in
             let b = within_left words words' m n n.modules left.modules (omega (arith, q)) (good.begun m q) in
             record {
               scopes = omega (arith, b.scopes, f.scopes);
@@ -299,25 +293,24 @@ module _ {file words words' : List ℕ} (n : Counts) (good : Good file words n) 
               expressions = omega (arith, b.expressions, f.expressions);
             }
 
-        new : BeginsAt words' n.modules n → (m : ℕ) → n.modules + 1 ≡ suc m → BeginsWithin words' m (counts_after LineWord.M n count)
+        new : BeginsAt words' n.modules n → (m : ℕ) → n.modules + 1 ≡ suc m → BeginsWithin words' m (counts_after LineWord.M n read.count)
         new b m q =
             let here : n.modules ≡ m = omega (arith, q) in
-            subst (λ k. BeginsWithin words' k (counts_after LineWord.M n count)) here
+            subst (λ k. BeginsWithin words' k (counts_after LineWord.M n read.count)) here
             (record { scopes = omega (arith, b.scopes); types = omega (arith, b.types); definitions = omega (arith, b.definitions); expressions = omega (arith, b.expressions) })
 
-        of : (v : LineWord) → Ready v words' n → (m : ℕ) → (counts_after v n count).modules ≡ suc m → BeginsWithin words' m (counts_after v n count)
+        of : (v : LineWord) → Ready v words' n → (m : ℕ) → (counts_after v n read.count).modules ≡ suc m → BeginsWithin words' m (counts_after v n read.count)
         of LineWord.M r m q = new r m q
         of LineWord.S r m q = older LineWord.S m q
         of LineWord.T r m q = older LineWord.T m q
         of LineWord.D r m q = older LineWord.D m q
         of LineWord.E r m q = older LineWord.E m q
         of LineWord.Q r m q = older LineWord.Q m q
-        of LineWord.Other r m q = absurd r
 
-    staged_after : 1 ≤ (counts_after w n count).stage → (counts_after w n count).stage ≤ 5 → 1 ≤ (counts_after w n count).modules
+    staged_after : 1 ≤ (counts_after w n read.count).stage → (counts_after w n read.count).stage ≤ 5 → 1 ≤ (counts_after w n read.count).modules
     staged_after = of w ready
       where
-        of : (v : LineWord) → Ready v words' n → 1 ≤ (counts_after v n count).stage → (counts_after v n count).stage ≤ 5 → 1 ≤ (counts_after v n count).modules
+        of : (v : LineWord) → Ready v words' n → 1 ≤ (counts_after v n read.count).stage → (counts_after v n read.count).stage ≤ 5 → 1 ≤ (counts_after v n read.count).modules
         of LineWord.M r a b = omega arith
         of LineWord.S r a b = omega (arith, r.is_last)
         of LineWord.T r a b = omega (arith, r.is_last)
@@ -327,14 +320,13 @@ module _ {file words words' : List ℕ} (n : Counts) (good : Good file words n) 
           where
             past : 6 ≤ 5 → ⊥
             past h = omega arith
-        of LineWord.Other r a b = absurd r
 
-    steady_after : (version : ℕ) (words'' : List ℕ) → Left (counts_after w n count) words' words'' → index_so_far version file words'' (counts_after w n count) ≡ index_so_far version file words' (counts_after w n count)
+    steady_after : (version : ℕ) (words'' : List ℕ) → Left (counts_after w n read.count) words' words'' → index_so_far version file words'' (counts_after w n read.count) ≡ index_so_far version file words' (counts_after w n read.count)
     steady_after version words'' l =
-        row_added version file words'' n count w (ready_left words' words'' w n count l ready)
+        row_added version file words'' n read.count w (ready_left words' words'' w n read.count l ready)
         ∙ ap₂ add (line.stays few words'' l)
-        (good.steady version words'' (left_then left (left_fewer (fewer_after w n count) l)) ∙ sym (same_index version))
-        ∙ sym (row_added version file words' n count w ready)
+        (good.steady version words'' (left_then left (left_fewer (fewer_after w n read.count) l)) ∙ sym (same_index version))
+        ∙ sym (row_added version file words' n read.count w ready)
 
-    pub good_after : Good file words' (counts_after w n count)
+    pub good_after : Good file words' (counts_after w n read.count)
     good_after = record { fine = fine_after; counted = counted_after; begun = begun_after; staged = staged_after; steady = steady_after }

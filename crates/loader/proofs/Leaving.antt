@@ -5,12 +5,7 @@ use mathlib.Core.Logic.{inl, inr, ⊎_elim}
 use mathlib.Core.List.{List}
 use native.Mathlib.Omega.{arith}
 use lib.ListN.{length}
-use Rattle.std.specs.Prelude.{Option, None, Some, if◌then◌else◌}
-use mathlib.Core.Bool.{Bool, true, false, false≢true}
-use lib.Dec.{eqb}
-use borrow.Author.Tests.{eq-eqb}
-use Rattle.model.proofs.Tests.{eqb_sound, none≢some, some-injective}
-use Rattle.loader.specs.Numbers.{known}
+use Rattle.std.specs.Prelude.{Option, None}
 use Rattle.model.specs.Common.{Text}
 use Rattle.format.specs.Lines.{line_from}
 use Rattle.loader.specs.Lines.{LineIs, LinePut}
@@ -20,6 +15,7 @@ use Rattle.records.specs.Promises.{Put}
 use Rattle.records.proofs.Stores.{lt_or_ge}
 use Rattle.loader.specs.Items.{Behind}
 use Rattle.loader.specs.State.{Left, Fine, HasRoom, counts_after}
+use Rattle.loader.specs.declared.items.ItemsRead.{ItemsRead}
 use Rattle.loader.specs.declared.rows.Counts.{Counts}
 
 pub left_self : (n : Counts) (words : List ℕ) → Left n words words
@@ -49,7 +45,7 @@ left_then p q =
     }
 
 -- no line was read
-pub line_lost : {w : LineWord} {file words : List ℕ} {n : Counts} {t : Text} {words' : List ℕ} {r : Option (ℕ × ℕ)}
+pub line_lost : {w : LineWord} {file words : List ℕ} {n : Counts} {t : Text} {words' : List ℕ} {r : Option ItemsRead}
     → r ≡ None → Left n words words' → line_from w t ≡ None → LinePut w file words n t words' r
 line_lost {w} {file} {words} {n} {t} {words'} e left none = record { left = left; line = subst (LineIs w file words' n t) (sym e) none }
 
@@ -83,7 +79,6 @@ fewer_after LineWord.T n count = omega arith
 fewer_after LineWord.D n count = omega arith
 fewer_after LineWord.E n count = omega arith
 fewer_after LineWord.Q n count = omega arith
-fewer_after LineWord.Other n count = omega arith
 
 -- items behind the counted ones
 pub behind_left : {file words words' : List ℕ} (n : Counts) → Fine file words n → Behind n.items words words' → Left n words words'
@@ -153,19 +148,3 @@ module _ {file words : List ℕ} (n : Counts) (fine : Fine file words n) where
 -- a row's values, known by what they are equal to
 pub put_same : {words words' : List ℕ} {at : ℕ} {values values' : List ℕ} → values ≡ values' → Put words at values words' → Put words at values' words'
 put_same {words} {words'} {at} e p = subst (λ v. Put words at v words') e p
-
--- a word's number, where the word is one of the table's, and where it is not
-module _ (other n : ℕ) (r : Option ℕ) (is : r ≡ known other n) where
-  pub number_lost : r ≡ None → n ≡ other
-  number_lost e = by (eqb n other) refl (sym e ∙ is)
-    where
-      by : (b : Bool) → eqb n other ≡ b → ◌≡◌ {A = Option ℕ} None (if b then None else Some n) → n ≡ other
-      by true q h = eqb_sound n other q
-      by false q h = absurd (none≢some h)
-
-  pub number_kept : (k : ℕ) → r ≡ Some k → (k ≡ n) × (n ≡ other → ⊥)
-  number_kept k e = by (eqb n other) refl (sym e ∙ is)
-    where
-      by : (b : Bool) → eqb n other ≡ b → ◌≡◌ {A = Option ℕ} (Some k) (if b then None else Some n) → (k ≡ n) × (n ≡ other → ⊥)
-      by true q h = absurd (none≢some (sym h))
-      by false q h = (some-injective h, λ same. false≢true (sym q ∙ eq-eqb n other same))

@@ -1,13 +1,11 @@
 -- Lists: one item after the other, and their rows. Assumes nothing.
-use Prim.Native.Nat.{ℕ, suc, ◌+◌, ◌*◌, ◌-◌, ◌≤◌, ◌<◌}
+use Prim.Native.Nat.{ℕ, suc, ◌+◌, ◌-◌, ◌≤◌, ◌<◌}
 use mathlib.Core.Path.{◌≡◌, refl, sym, ap, ◌∙◌}
 use mathlib.Core.List.{List, [], ◌∷◌, ◌++◌, append_assoc, append-nil}
-use mathlib.Core.Bool.{true, false, not, false≢true}
+use mathlib.Core.Bool.{Bool, true, false, not, false≢true}
 use Rattle.std.specs.Prelude.{Option, None, Some}
 use native.Mathlib.Omega.{arith}
-use lib.Dec.{eqb}
-use lib.ListN.{length, drop, set, get_or, length-append, length-set, drop_of_length-le}
-use lib.Seq.{get_or-set_same, get_or-set_other}
+use lib.ListN.{length, drop, length-append}
 use Rattle.model.specs.Common.{Text, let_some}
 use Rattle.model.specs.Limits.{max_items}
 use Rattle.format.specs.declared.Listed.{Listed}
@@ -15,22 +13,20 @@ use Rattle.format.specs.Fields.{Read, slot}
 use Rattle.format.specs.Tails.{Item, Items, first_kind, second_kind, at_end, no_items, with_item, items_within, is_empty_list, items}
 use Rattle.format.proofs.Reading.{Every, every_some, every_then, this}
 use Rattle.format.proofs.Enough.{items_enough, first_shorter, slot_shorter}
-use Rattle.words.proofs.Bytes.{here}
 use Rattle.records.specs.Layout.{each, item_place}
 use Rattle.records.proofs.Lists.{each_same, each_snoc}
 use Rattle.loader.specs.Values.{Words, value_by}
-use Rattle.loader.specs.Items.{ItemHere, item_here, is_named, first_word, one_word, item_by, item_row, items_by, Behind, ItemPut, ItemsHeld}
+use Rattle.std.specs.Bool.{then_some}
+use Rattle.words.specs.Ends.{begins}
+use Rattle.loader.specs.declared.items.ItemWords.{ItemWords}
+use Rattle.loader.specs.Items.{ItemHere, item_here, is_named, first_word, one_word, item_by, item_row, items_by, Behind, ItemPut, ItemsHeld, ItemsAre}
 
 -- ------------------------------------------------------------------ the end of a list
 
-module _ (s : Text) (e : ℕ) where
-  pub end_out : length s ≤ e → true ≡ at_end (drop e s)
-  unfolding at_end
-  end_out h = sym (ap at_end (drop_of_length-le s h))
-
-  pub end_at : e < length s → not (eqb (get_or s e 0) 9) ≡ at_end (drop e s)
-  unfolding at_end
-  end_at h = sym (ap at_end (here s e h))
+pub end_is : (t : Text) → not (begins 9 t) ≡ at_end t
+unfolding at_end
+end_is [] = refl
+end_is (b ∷ t) = refl
 
 -- ------------------------------------------------------------------ one item
 
@@ -189,24 +185,6 @@ behind_self first words = record { long = refl; same = λ i h. refl }
 pub behind_then : (first k : ℕ) {words words' words'' : List ℕ} → Behind first words words' → Behind (first + k) words' words'' → Behind first words words''
 behind_then first k p q = record { long = q.long ∙ p.long; same = λ i h. q.same i (omega arith) ∙ p.same i h }
 
-pub item_put : (words : List ℕ) (i value name : ℕ) → length words ≡ 16384 → i < max_items → ItemPut words i value name (set (set words (12288 + 2 * i) value) (12288 + 2 * i + 1) name)
-item_put words i value name long room =
-    record {
-      behind =
-          record {
-            long = length-set (set words (12288 + 2 * i) value) (12288 + 2 * i + 1) name ∙ length-set words (12288 + 2 * i) value;
-            same = λ j h.
-                get_or-set_other (set words (12288 + 2 * i) value) (12288 + 2 * i + 1) j name 0 (λ e. omega arith)
-                ∙ get_or-set_other words (12288 + 2 * i) j value 0 (λ e. omega arith);
-          };
-      put_value = λ h.
-          get_or-set_other (set words (12288 + 2 * i) value) (12288 + 2 * i + 1) (12288 + 2 * i) name 0 (λ e. omega arith)
-          ∙ get_or-set_same words (12288 + 2 * i) value 0 (omega arith);
-      put_name = λ h.
-          get_or-set_same (set words (12288 + 2 * i) value) (12288 + 2 * i + 1) name 0
-          (omega (arith, length-set words (12288 + 2 * i) value));
-    }
-
 -- ------------------------------------------------------------------ a list so far
 
 -- i items were read, and they stand in their rows if there is room; the others stand from e on
@@ -223,7 +201,7 @@ so_far_begun file words l at first =
     record { list = []; counts = refl; held = λ h. refl; is = prepend_nothing (items_from l (drop at file)); fewer = omega arith }
 
 module _ {file words : List ℕ} {l : Listed} {t : Text} {first e i : ℕ} (so_far : SoFar file words l t first e i) where
-  pub so_far_ended : at_end (drop e file) ≡ true → is_empty_list l ≡ false → ItemsHeld file words l t first i e
+  pub so_far_ended : at_end (drop e file) ≡ true → is_empty_list l ≡ false → ItemsHeld file words l t first (record { count = i; end = e })
   unfolding items
   so_far_ended h listed =
       record {
@@ -244,9 +222,9 @@ module _ {file words : List ℕ} {l : Listed} {t : Text} {first e i : ℕ} (so_f
       ∙ so_far.is
       ∙ ap (prepend so_far.list) (items_lost l (drop e file) h p)
 
-  module _ (value name end : ℕ) (words' : List ℕ) (more : at_end (drop e file) ≡ false)
-      (read : item_here l (drop e file) ≡ Some (record { item = item_by l file value name; rest = drop end file }))
-      (put : ItemPut words (first + i) value name words') where
+  module _ (x : ItemWords) (words' : List ℕ) (more : at_end (drop e file) ≡ false)
+      (read : item_here l (drop e file) ≡ Some (record { item = item_by l file x.value x.name; rest = drop x.end file }))
+      (put : ItemPut words (first + i) x.value x.name words') where
     rows_same : items_by l file words' first i ≡ items_by l file words first i
     unfolding items_by
     rows_same =
@@ -254,38 +232,38 @@ module _ {file words : List ℕ} {l : Listed} {t : Text} {first e i : ℕ} (so_f
         (λ j le lt.
         (λ d. item_by l file (put.behind.same (item_place j) (omega arith) d) (put.behind.same (item_place j + 1) (omega arith) d)))
 
-    row_new : first + i < max_items → item_row l file words' (first + i) ≡ item_by l file value name
+    row_new : first + i < max_items → item_row l file words' (first + i) ≡ item_by l file x.value x.name
     row_new h = λ d. item_by l file (put.put_value h d) (put.put_name h d)
 
-    pub so_far_more : SoFar file words' l t first end (i + 1)
+    pub so_far_more : SoFar file words' l t first x.end (i + 1)
     unfolding items_by
     so_far_more =
         record {
-          list = so_far.list ++ (item_by l file value name ∷ []);
-          counts = length-append so_far.list (item_by l file value name ∷ []) ∙ ap (λ n. n + 1) so_far.counts;
+          list = so_far.list ++ (item_by l file x.value x.name ∷ []);
+          counts = length-append so_far.list (item_by l file x.value x.name ∷ []) ∙ ap (λ n. n + 1) so_far.counts;
           held = grown;
           is =
               so_far.is
               ∙ ap (prepend so_far.list) (items_step l (drop e file) _ more read)
-              ∙ prepend_twice so_far.list (item_by l file value name ∷ []) (items_from l (drop end file));
+              ∙ prepend_twice so_far.list (item_by l file x.value x.name ∷ []) (items_from l (drop x.end file));
           fewer = let less = item_shorter l (drop e file) _ read in let before = so_far.fewer in omega (arith, less, before);
         }
       where
         next : i + 1 ≡ suc i
         next = omega arith
 
-        grown : first + (i + 1) ≤ max_items → so_far.list ++ (item_by l file value name ∷ []) ≡ items_by l file words' first (i + 1)
+        grown : first + (i + 1) ≤ max_items → so_far.list ++ (item_by l file x.value x.name ∷ []) ≡ items_by l file words' first (i + 1)
         grown h =
             (λ d. (so_far.held (omega arith) ∙ sym rows_same) d ++ (sym (row_new (omega arith)) d ∷ []))
             ∙ sym (ap (each (item_row l file words') first) next ∙ each_snoc (item_row l file words') first i)
 
-    pub so_far_shorter : length (drop end file) < length (drop e file)
+    pub so_far_shorter : length (drop x.end file) < length (drop e file)
     so_far_shorter = item_shorter l (drop e file) _ read
 
 -- ------------------------------------------------------------------ no list
 
 module _ (file words : List ℕ) (l : Listed) (at first : ℕ) (listed : is_empty_list l ≡ true) where
-  pub none_held : at_end (drop at file) ≡ true → ItemsHeld file words l (drop at file) first 0 at
+  none_held : at_end (drop at file) ≡ true → ItemsHeld file words l (drop at file) first (record { count = 0; end = at })
   unfolding items items_by each
   none_held h =
       record {
@@ -299,10 +277,14 @@ module _ (file words : List ℕ) (l : Listed) (at first : ℕ) (listed : is_empt
         held = λ short. refl;
       }
 
-  pub some_lost : at_end (drop at file) ≡ false → items l (drop at file) ≡ None
+  some_lost : at_end (drop at file) ≡ false → items l (drop at file) ≡ None
   unfolding items
   some_lost h =
       λ d. elim (listed d) [
         | true ↦ elim (h d) [ true ↦ Some (no_items (drop at file)) | false ↦ None ]
         | false ↦ items_from l (drop at file)
       ]
+
+  pub no_list : (b : Bool) → b ≡ at_end (drop at file) → ItemsAre file words l (drop at file) first (then_some b (record { count = 0; end = at }))
+  no_list true h = none_held (sym h)
+  no_list false h = some_lost (sym h)

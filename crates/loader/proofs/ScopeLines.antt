@@ -37,11 +37,11 @@ module _ (file t : Text) where
   scope_no_parent p = rw p
 
   module _ (parent e : ℕ) (up : slot Kind.MaybeNumber t ≡ Some (record { value = linked (link_by parent); rest = drop e file })) where
-    pub scope_no_word : word_here (drop e file) ≡ None → line_from LineWord.S t ≡ None
+    pub scope_no_word : word_here scope_word_of (drop e file) ≡ None → line_from LineWord.S t ≡ None
     unfolding line_from scope_line
     scope_no_word p = rw (up, p)
 
-    module _ (f : Text) (q : ℕ) (here : word_here (drop e file) ≡ Some (record { word = f; rest = drop q file })) (w : ScopeWord) (is_IsWord : w ≡ scope_word_of f) where
+    module _ (w : ScopeWord) (q : ℕ) (here : word_here scope_word_of (drop e file) ≡ Some (record { word = w; rest = drop q file })) where
       pub scope_no_tail : tails.tail bare (drop q file) ≡ None → line_from LineWord.S t ≡ None
       unfolding line_from scope_line
       scope_no_tail p = rw (up, here, p)
@@ -49,7 +49,7 @@ module _ (file t : Text) where
       scope_read : (x : tails.Tail) (o : Option Scope) → tails.tail bare (drop q file) ≡ Some x → scope_as (maybe_num (linked (link_by parent))) w ≡ o
           → line_from LineWord.S t ≡ (let_some o None λ v. Some (record { entry = a_scope v; rest = x.rest }))
       unfolding line_from scope_line
-      scope_read x o p r = rw (up, here, sym is_IsWord, p, r)
+      scope_read x o p r = rw (up, here, p, r)
 
       module _ {words' : List ℕ} (n : Counts) (x : Tail) (h : TailHeld file words' bare (drop q file) n.items x) where
         pub scope_no_fit : scope_fits parent w ≡ false → line_from LineWord.S t ≡ None
@@ -57,7 +57,7 @@ module _ (file t : Text) where
 
         module _ {words words'' : List ℕ} (fine : Fine file words n) (room : HasRoom LineWord.S n) (fits : scope_fits parent w ≡ true) (behind : Behind n.items words words')
             (put : Put words' (scope_place n.scopes) (parent ∷ scope_number w ∷ []) words'') where
-          pub scope_put_as : LinePut LineWord.S file words n t words'' (Some (x.count, x.end))
+          pub scope_put_as : LinePut LineWord.S file words n t words'' (Some x.items)
           unfolding row_entry entry_items
           scope_put_as =
               record {
@@ -85,7 +85,7 @@ module _ (file t : Text) where
     name_put : word words₃ (module_place n.modules) ≡ (parts x.a).low
     name_put = ap (word words₃) (omega arith) ∙ put.inside 0 (omega arith)
 
-    pub module_put_as : LinePut LineWord.M file words n t words₃ (Some (x.count, x.end))
+    pub module_put_as : LinePut LineWord.M file words n t words₃ (Some x.items)
     unfolding row_entry entry_items line_from module_line
     module_put_as =
         record {
@@ -110,5 +110,5 @@ module _ (file t : Text) where
         read : tails.tail module_shape t ≡ Some (tail_by file module_shape x h.list)
         read = h.is
 
-        is : line_from LineWord.M t ≡ Some (record { entry = a_module (name_by file (parts x.a).low); rest = drop x.end file })
+        is : line_from LineWord.M t ≡ Some (record { entry = a_module (name_by file (parts x.a).low); rest = drop x.items.end file })
         is = rw read

@@ -1,14 +1,15 @@
 -- The line that begins here, as the definition judges it. Assumes nothing.
 use Prim.Native.Nat.{ℕ, ◌+◌, ◌-◌, ◌≤◌, ◌<◌}
 use mathlib.Core.Path.{◌≡◌, refl, sym, ap, ap₂, ◌∙◌}
-use mathlib.Core.List.{List}
+use mathlib.Core.List.{List, [], ◌∷◌}
 use mathlib.Core.Bool.{Bool, true, false, not, ◌&&◌}
-use Rattle.std.specs.Prelude.{None}
+use Rattle.std.specs.Prelude.{Option, None, Some}
 use native.Mathlib.Omega.{arith}
-use lib.Dec.{eqb, ltb}
-use lib.ListN.{length, take, drop, get_or, drop_of_length-le}
-use borrow.Author.Tests.{eq-eqb, ne_eqb, le-ltb}
+use lib.Dec.{ltb}
+use lib.ListN.{length, take, drop}
+use borrow.Author.Tests.{le-ltb}
 use Rattle.std.specs.Prelude.{if◌then◌else◌}
+use Rattle.model.specs.Common.{Text, let_some}
 use Rattle.model.specs.Limits.{max_items, item_count}
 use Rattle.model.proofs.Tests.{lt-ltb, and_left}
 use Rattle.format.specs.declared.LineWord.{LineWord}
@@ -16,18 +17,25 @@ use Rattle.format.specs.Words.{line_word_of}
 use Rattle.format.specs.Fields.{field_of}
 use Rattle.format.specs.Lines.{Line, entry_items, line_from}
 use Rattle.format.specs.FirstPass.{Seen, Step, refuse, go, ended, judged, counted, step_on, add, stage_of, in_place, is_again}
-use Rattle.words.proofs.Bytes.{here}
+use Rattle.words.specs.Ends.{begins}
+use Rattle.words.proofs.Bytes.{begins_here}
 use Rattle.fields.proofs.Numbers.{behind_at}
 use Rattle.fields.proofs.Slots.{field_take}
 use Rattle.loader.specs.State.{index_so_far, seen_as, row_entry, Left, HasRoom, has_room, counts_after}
 use Rattle.loader.specs.Lines.{LineHeld}
 use Rattle.loader.specs.Steps.{repeated, may_stand, Good}
+use Rattle.loader.specs.declared.items.ItemsRead.{ItemsRead}
 use Rattle.loader.specs.declared.rows.Counts.{Counts}
 use Rattle.loader.proofs.Advancing.{stage_after, again_is}
 use Rattle.loader.proofs.Keeping.{room_is, same_index, entry_is, index_after}
 
+-- no LF stands at the line's end
+ended_no : (s : Seen) (t : Text) → begins 10 t ≡ false → ended s t ≡ refuse 4
+ended_no s [] h = refl
+ended_no s (b ∷ t) h = ap (λ q. if q then go s t else refuse 4) h
+
 module _ (version : ℕ) {file words : List ℕ} (n : Counts) (good : Good file words n) (at p : ℕ) (ends : p ≡ at + length (field_of (drop at file)))
-    (w : LineWord) (is_IsWord : w ≡ line_word_of (take (p - at) (drop at file))) where
+    (o : Option LineWord) (is_word : o ≡ line_word_of (take (p - at) (drop at file))) where
   abbrev now_seen : Seen
   now_seen = seen_as version file words n
 
@@ -37,88 +45,87 @@ module _ (version : ℕ) {file words : List ℕ} (n : Counts) (good : Good file 
       size : p - at ≡ length (field_of (drop at file))
       size = omega (arith, ends)
 
-  starts : step_on now_seen (drop at file) ≡ counted w now_seen (drop p file)
+  starts : step_on now_seen (drop at file) ≡ (let_some o (refuse 4) λ w. counted w now_seen (drop p file))
   unfolding step_on
   starts =
-      ap₂ (λ v t. counted v now_seen t) (sym (is_IsWord ∙ ap line_word_of field_is)) (behind_at file at ∙ ap (λ k. drop k file) (sym ends))
+      ap₂ (λ v t. let_some v (refuse 4) λ w. counted w now_seen t) (sym (is_word ∙ ap line_word_of field_is)) (behind_at file at ∙ ap (λ k. drop k file) (sym ends))
 
-  pub step_full : has_room w n ≡ false → step_on now_seen (drop at file) ≡ refuse 3
-  step_full e =
-      starts ∙ (λ i. elim ((room_is version n good w ∙ e) i) [ true ↦ judged w now_seen (line_from w (drop p file)) | false ↦ refuse 3 ])
+  pub step_none : o ≡ None → step_on now_seen (drop at file) ≡ refuse 4
+  step_none e = starts ∙ ap (λ v. let_some v (refuse 4) λ w. counted w now_seen (drop p file)) e
 
-  module _ (free : has_room w n ≡ true) where
-    step_judged : step_on now_seen (drop at file) ≡ judged w now_seen (line_from w (drop p file))
-    step_judged =
-        starts ∙ (λ i. elim ((room_is version n good w ∙ free) i) [ true ↦ judged w now_seen (line_from w (drop p file)) | false ↦ refuse 3 ])
+  module _ (w : LineWord) (is_w : o ≡ Some w) where
+    starts_with : step_on now_seen (drop at file) ≡ counted w now_seen (drop p file)
+    starts_with = starts ∙ ap (λ v. let_some v (refuse 4) λ k. counted k now_seen (drop p file)) is_w
 
-    pub step_wrong : line_from w (drop p file) ≡ None → step_on now_seen (drop at file) ≡ refuse 4
-    step_wrong e = step_judged ∙ ap (judged w now_seen) e
+    pub step_full : has_room w n ≡ false → step_on now_seen (drop at file) ≡ refuse 3
+    step_full e =
+        starts_with ∙ (λ i. elim ((room_is version n good w ∙ e) i) [ true ↦ judged w now_seen (line_from w (drop p file)) | false ↦ refuse 3 ])
 
-    module _ {words' : List ℕ} (count end : ℕ) (room : HasRoom w n) (left : Left n words words') (line : LineHeld w file words' n (drop p file) count end) where
-      abbrev the_line : Line
-      the_line = record { entry = line.entry; rest = drop end file }
+    module _ (free : has_room w n ≡ true) where
+      step_judged : step_on now_seen (drop at file) ≡ judged w now_seen (line_from w (drop p file))
+      step_judged =
+          starts_with ∙ (λ i. elim ((room_is version n good w ∙ free) i) [ true ↦ judged w now_seen (line_from w (drop p file)) | false ↦ refuse 3 ])
 
-      items_are : item_count now_seen.index + entry_items line.entry ≡ n.items + count
-      items_are = ap₂ ◌+◌ (good.counted version).items line.counts
+      pub step_wrong : line_from w (drop p file) ≡ None → step_on now_seen (drop at file) ≡ refuse 4
+      step_wrong e = step_judged ∙ ap (judged w now_seen) e
 
-      -- how the definition judges a line of right form
-      abbrev judging : Bool → Bool → Step
-      judging many fits =
-          if many then refuse 3 else if fits then ended (record { stage = stage_of w; index = add line.entry now_seen.index }) (drop end file) else refuse 4
+      module _ {words' : List ℕ} (read : ItemsRead) (room : HasRoom w n) (left : Left n words words') (line : LineHeld w file words' n (drop p file) read) where
+        abbrev the_line : Line
+        the_line = record { entry = line.entry; rest = drop read.end file }
 
-      judged_by : step_on now_seen (drop at file)
-          ≡ judging (ltb max_items (n.items + count)) (in_place w n.stage && not (is_again line.entry now_seen.index))
-      judged_by =
-          step_judged
-          ∙ ap (judged w now_seen) line.is
-          ∙ ap (λ k. judging (ltb max_items k) (in_place w n.stage && not (is_again line.entry now_seen.index))) items_are
+        items_are : item_count now_seen.index + entry_items line.entry ≡ n.items + read.count
+        items_are = ap₂ ◌+◌ (good.counted version).items line.counts
 
-      pub step_many : max_items < n.items + count → step_on now_seen (drop at file) ≡ refuse 3
-      step_many h = judged_by ∙ ap (λ b. judging b (in_place w n.stage && not (is_again line.entry now_seen.index))) (lt-ltb max_items (n.items + count) h)
+        -- how the definition judges a line of right form
+        abbrev judging : Bool → Bool → Step
+        judging many fits =
+            if many then refuse 3 else if fits then ended (record { stage = stage_of w; index = add line.entry now_seen.index }) (drop read.end file) else refuse 4
 
-      module _ (few : n.items + count ≤ max_items) where
-        again_by : is_again line.entry now_seen.index ≡ repeated file words' w n.modules
-        unfolding is_again row_entry
-        again_by =
-            ap₂ is_again (entry_is n good w (drop p file) count end room left line few) (sym (same_index n good w (drop p file) count end room left line few version))
-            ∙ of w
-          where
-            of : (v : LineWord) → is_again (row_entry v file words' n) (index_so_far version file words' n) ≡ repeated file words' v n.modules
-            of LineWord.M = again_is version file words' n
-            of LineWord.S = refl
-            of LineWord.T = refl
-            of LineWord.D = refl
-            of LineWord.E = refl
-            of LineWord.Q = refl
-            of LineWord.Other = refl
+        judged_by : step_on now_seen (drop at file)
+            ≡ judging (ltb max_items (n.items + read.count)) (in_place w n.stage && not (is_again line.entry now_seen.index))
+        judged_by =
+            step_judged
+            ∙ ap (judged w now_seen) line.is
+            ∙ ap (λ k. judging (ltb max_items k) (in_place w n.stage && not (is_again line.entry now_seen.index))) items_are
 
-        fitting : step_on now_seen (drop at file) ≡ judging false (may_stand file words' w n.stage n.modules)
-        fitting =
-            judged_by
-            ∙ ap₂ (λ b g. judging b (in_place w n.stage && not g)) (le-ltb max_items (n.items + count) few) again_by
+        pub step_many : max_items < n.items + read.count → step_on now_seen (drop at file) ≡ refuse 3
+        step_many h = judged_by ∙ ap (λ b. judging b (in_place w n.stage && not (is_again line.entry now_seen.index))) (lt-ltb max_items (n.items + read.count) h)
 
-        pub step_misplaced : may_stand file words' w n.stage n.modules ≡ false → step_on now_seen (drop at file) ≡ refuse 4
-        step_misplaced e = fitting ∙ ap (judging false) e
+        module _ (few : n.items + read.count ≤ max_items) where
+          again_by : is_again line.entry now_seen.index ≡ repeated file words' w n.modules
+          unfolding is_again row_entry
+          again_by =
+              ap₂ is_again (entry_is n good w (drop p file) read room left line few) (sym (same_index n good w (drop p file) read room left line few version))
+              ∙ of w
+            where
+              of : (v : LineWord) → is_again (row_entry v file words' n) (index_so_far version file words' n) ≡ repeated file words' v n.modules
+              of LineWord.M = again_is version file words' n
+              of LineWord.S = refl
+              of LineWord.T = refl
+              of LineWord.D = refl
+              of LineWord.E = refl
+              of LineWord.Q = refl
 
-        module _ (stands : may_stand file words' w n.stage n.modules ≡ true) where
-          ending : step_on now_seen (drop at file) ≡ ended (record { stage = stage_of w; index = add line.entry now_seen.index }) (drop end file)
-          ending = fitting ∙ ap (judging false) stands
+          fitting : step_on now_seen (drop at file) ≡ judging false (may_stand file words' w n.stage n.modules)
+          fitting =
+              judged_by
+              ∙ ap₂ (λ b g. judging b (in_place w n.stage && not g)) (le-ltb max_items (n.items + read.count) few) again_by
 
-          pub step_cut : length file ≤ end → step_on now_seen (drop at file) ≡ refuse 4
-          step_cut h = ending ∙ ap (ended _) (drop_of_length-le file h)
+          pub step_misplaced : may_stand file words' w n.stage n.modules ≡ false → step_on now_seen (drop at file) ≡ refuse 4
+          step_misplaced e = fitting ∙ ap (judging false) e
 
-          ending_at : end < length file → step_on now_seen (drop at file)
-              ≡ (if eqb (get_or file end 0) 10 then go (record { stage = stage_of w; index = add line.entry now_seen.index }) (drop (end + 1) file) else refuse 4)
-          ending_at h = ending ∙ ap (ended _) (here file end h)
+          module _ (stands : may_stand file words' w n.stage n.modules ≡ true) where
+            ending : step_on now_seen (drop at file) ≡ ended (record { stage = stage_of w; index = add line.entry now_seen.index }) (drop read.end file)
+            ending = fitting ∙ ap (judging false) stands
 
-          pub step_unended : end < length file → (get_or file end 0 ≡ 10 → ⊥) → step_on now_seen (drop at file) ≡ refuse 4
-          step_unended h e = ending_at h ∙ ap (λ b. if b then go (record { stage = stage_of w; index = add line.entry now_seen.index }) (drop (end + 1) file) else refuse 4) (ne_eqb (get_or file end 0) 10 e)
+            pub step_unended : begins 10 (drop read.end file) ≡ false → step_on now_seen (drop at file) ≡ refuse 4
+            step_unended h = ending ∙ ended_no _ (drop read.end file) h
 
-          pub placed : in_place w n.stage ≡ true
-          placed = and_left (in_place w n.stage) (not (repeated file words' w n.modules)) stands
+            pub placed : in_place w n.stage ≡ true
+            placed = and_left (in_place w n.stage) (not (repeated file words' w n.modules)) stands
 
-          pub step_goes : end < length file → get_or file end 0 ≡ 10 → step_on now_seen (drop at file) ≡ go (seen_as version file words' (counts_after w n count)) (drop (end + 1) file)
-          step_goes h e =
-              ending_at h
-              ∙ ap (λ b. if b then go (record { stage = stage_of w; index = add line.entry now_seen.index }) (drop (end + 1) file) else refuse 4) (eq-eqb (get_or file end 0) 10 e)
-              ∙ (λ i. go (record { stage = sym (stage_after n count w) i; index = sym (index_after n good w (drop p file) count end room left line few placed version) i }) (drop (end + 1) file))
+            pub step_goes : begins 10 (drop read.end file) ≡ true → step_on now_seen (drop at file) ≡ go (seen_as version file words' (counts_after w n read.count)) (drop (read.end + 1) file)
+            step_goes h =
+                ending
+                ∙ ap (ended _) (begins_here 10 file read.end h)
+                ∙ (λ i. go (record { stage = sym (stage_after n read.count w) i; index = sym (index_after n good w (drop p file) read room left line few placed version) i }) (drop (read.end + 1) file))

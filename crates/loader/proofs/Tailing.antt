@@ -16,16 +16,18 @@ use Rattle.format.specs.Tails as tails
 use Rattle.records.specs.Layout.{item_place}
 use Rattle.records.specs.Promises.{Same}
 use Rattle.records.proofs.Lists.{each_same}
-use Rattle.loader.specs.Values.{parts, value_by, three_words_is}
+use Rattle.loader.specs.Values.{three_by, three_words_is}
 use Rattle.loader.specs.Items.{item_by, item_row, items_by, ItemsHeld}
 use Rattle.loader.specs.Lines.{tail_by, TailHeld, TailIs, TailPut}
+use Rattle.loader.specs.declared.values.ThreeFields.{ThreeFields}
+use Rattle.loader.specs.declared.items.ItemsRead.{ItemsRead}
 use Rattle.loader.specs.declared.rows.Tail.{Tail}
 
 -- what the definition reads where the code has read three fields, and where it has not
-module _ (s t : Text) (ka kb kc : Kind) (r : Option (ℕ × ℕ × ℕ × ℕ)) (q : three_words_is ka kb kc s r ≡ tails.three ka kb kc t) where
-  pub three_found : (a b c e : ℕ) → r ≡ Some (a, b, c, e)
-      → tails.three ka kb kc t ≡ Some (record { a = value_by ka s (parts a); b = value_by kb s (parts b); c = value_by kc s (parts c); rest = drop e s })
-  three_found a b c e h = sym q ∙ ap (three_words_is ka kb kc s) h
+module _ (s t : Text) (ka kb kc : Kind) (r : Option ThreeFields) (q : three_words_is ka kb kc s r ≡ tails.three ka kb kc t) where
+  pub three_found : (x : ThreeFields) → r ≡ Some x
+      → tails.three ka kb kc t ≡ Some (three_by ka kb kc s x)
+  three_found x h = sym q ∙ ap (three_words_is ka kb kc s) h
 
   pub three_lost : r ≡ None → tails.three ka kb kc t ≡ None
   three_lost h = sym q ∙ ap (three_words_is ka kb kc s) h
@@ -45,28 +47,31 @@ module _ (s : Shape) (file t : Text) where
   unfolding tails.tail
   tail_no_three p = rw p
 
-  module _ (a b c e : ℕ) (p : tails.three s.a s.b s.c t ≡ Some (record { a = value_by s.a file (parts a); b = value_by s.b file (parts b); c = value_by s.c file (parts c); rest = drop e file })) where
-    pub tail_no_items : tails.items s.list (drop e file) ≡ None → tails.tail s t ≡ None
+  module _ (f : ThreeFields) (p : tails.three s.a s.b s.c t ≡ Some (three_by s.a s.b s.c file f)) where
+    pub tail_no_items : tails.items s.list (drop f.end file) ≡ None → tails.tail s t ≡ None
     unfolding tails.tail
     tail_no_items q = rw (p, q)
 
-    module _ {words : List ℕ} {first count end : ℕ} (h : ItemsHeld file words s.list (drop e file) first count end) (list : ℕ) (is_list : count ≤ max_items → list ≡ first + 65536 * count) where
-      pub tail_held : TailHeld file words s t first (record { a = a; b = b; c = c; list = list; count = count; end = end })
+    module _ {words : List ℕ} {first : ℕ} (read : ItemsRead) (h : ItemsHeld file words s.list (drop f.end file) first read) (list : ℕ) (is_list : read.count ≤ max_items → list ≡ first + 65536 * read.count) where
+      abbrev the_tail : Tail
+      the_tail = record { a = f.a; b = f.b; c = f.c; list = list; items = read }
+
+      pub tail_held : TailHeld file words s t first the_tail
       unfolding tails.tail
       tail_held =
           record {
             list = h.list;
             is = whole;
             counts = h.counts;
-            none = λ empty. sym h.counts ∙ empty_list s.list (drop e file) _ empty h.is;
+            none = λ empty. sym h.counts ∙ empty_list s.list (drop f.end file) _ empty h.is;
             held = h.held;
             packed = is_list;
           }
         where
-          items_read : tails.items s.list (drop e file) ≡ Some (record { list = h.list; rest = drop end file })
+          items_read : tails.items s.list (drop f.end file) ≡ Some (record { list = h.list; rest = drop read.end file })
           items_read = h.is
 
-          whole : tails.tail s t ≡ Some (tail_by file s (record { a = a; b = b; c = c; list = list; count = count; end = end }) h.list)
+          whole : tails.tail s t ≡ Some (tail_by file s the_tail h.list)
           whole = rw (p, items_read)
 
 -- while the items are left
@@ -80,7 +85,7 @@ tail_kept {file} {words} {words'} {s} {t} {first} {x} left h =
       none = h.none;
       held = λ few.
           h.held few
-          ∙ each_same (item_row s.list file words) (item_row s.list file words') first x.count
+          ∙ each_same (item_row s.list file words) (item_row s.list file words') first x.items.count
           (λ i le lt. (λ d. item_by s.list file (sym (left (item_place i) (omega arith) (omega arith)) d) (sym (left (item_place i + 1) (omega arith) (omega arith)) d)));
       packed = h.packed;
     }

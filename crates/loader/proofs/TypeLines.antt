@@ -2,10 +2,10 @@
 use Prim.Native.Nat.{ℕ, ◌+◌, ◌≤◌}
 use mathlib.Core.Path.{◌≡◌, sym, ap, subst, ◌∙◌}
 use mathlib.Core.List.{List, [], ◌∷◌}
-use Rattle.std.specs.Prelude.{Option, None, Some}
+use Rattle.std.specs.Prelude.{None, Some}
 use native.Mathlib.Omega.{arith}
 use lib.ListN.{drop}
-use Rattle.model.specs.Common.{Text, let_some}
+use Rattle.model.specs.Common.{Text}
 use Rattle.model.specs.Limits.{max_items, type_expr_items}
 use Rattle.model.specs.Records.{TypeExpr}
 use Rattle.format.specs.declared.LineWord.{LineWord}
@@ -26,58 +26,58 @@ use Rattle.loader.specs.declared.rows.Counts.{Counts}
 use Rattle.loader.specs.declared.rows.Tail.{Tail}
 use Rattle.loader.proofs.Tailing.{tail_kept}
 use Rattle.loader.proofs.Leaving.{left_then, behind_left, put_left, type_apart}
-use Rattle.loader.proofs.Decoding.{RowOf, type_row, type_listed, type_other}
+use Rattle.loader.proofs.Decoding.{RowOf, type_row, type_listed}
 
 module _ (file t : Text) where
-  pub type_no_word : word_here t ≡ None → line_from LineWord.T t ≡ None
+  pub type_no_word : word_here type_word_of t ≡ None → line_from LineWord.T t ≡ None
   unfolding line_from type_line
   type_no_word p = rw p
 
-  module _ (f : Text) (q : ℕ) (here : word_here t ≡ Some (record { word = f; rest = drop q file })) (w : TypeWord) (is_IsWord : w ≡ type_word_of f) where
+  module _ (w : TypeWord) (q : ℕ) (here : word_here type_word_of t ≡ Some (record { word = w; rest = drop q file })) where
     pub type_no_tail : tails.tail (type_shape w) (drop q file) ≡ None → line_from LineWord.T t ≡ None
     unfolding line_from type_line
-    type_no_tail p = rw (here, sym is_IsWord, p)
+    type_no_tail p = rw (here, p)
 
-    type_read : (x : tails.Tail) (o : Option TypeExpr) → tails.tail (type_shape w) (drop q file) ≡ Some x → type_as w x ≡ o
-        → line_from LineWord.T t ≡ (let_some o None λ v. Some (record { entry = a_type v; rest = x.rest }))
+    type_read : (x : tails.Tail) → tails.tail (type_shape w) (drop q file) ≡ Some x
+        → line_from LineWord.T t ≡ Some (record { entry = a_type (type_as w x); rest = x.rest })
     unfolding line_from type_line
-    type_read x o p e = rw (here, sym is_IsWord, p, e)
+    type_read x p = rw (here, p)
 
-    module _ {words' : List ℕ} (n : Counts) (x : Tail) (h : TailHeld file words' (type_shape w) (drop q file) n.items x) where
-      pub type_no_kind : type_number w ≡ 7 → line_from LineWord.T t ≡ None
-      type_no_kind e = type_read (tail_by file (type_shape w) x h.list) None h.is (type_other w (tail_by file (type_shape w) x h.list) e)
+    module _ {words words' words'' : List ℕ} (n : Counts) (x : Tail) (h : TailHeld file words' (type_shape w) (drop q file) n.items x)
+        (fine : Fine file words n) (room : HasRoom LineWord.T n) (behind : Behind n.items words words')
+        (put : Put words' (type_expr_place n.types) (type_number w ∷ (parts x.a).low ∷ (parts x.b).low ∷ last_word (type_shape w) x ∷ []) words'') where
+      kept : TailHeld file words'' (type_shape w) (drop q file) n.items x
+      kept = tail_kept (same_above put (item_place 0) (item_place max_items) (omega (arith, room))) h
 
-      module _ {words words'' : List ℕ} (fine : Fine file words n) (room : HasRoom LineWord.T n) (known : type_number w ≡ 7 → ⊥) (behind : Behind n.items words words')
-          (put : Put words' (type_expr_place n.types) (type_number w ∷ (parts x.a).low ∷ (parts x.b).low ∷ last_word (type_shape w) x ∷ []) words'') where
-        kept : TailHeld file words'' (type_shape w) (drop q file) n.items x
-        kept = tail_kept (same_above put (item_place 0) (item_place max_items) (omega (arith, room))) h
+      abbrev the_type : TypeExpr
+      the_type = type_as w (tail_by file (type_shape w) x kept.list)
 
-        value : RowOf (type_as w (tail_by file (type_shape w) x kept.list)) type_expr_items x.count (n.items + x.count ≤ max_items) (type_expr_by file words'' (type_number w) (parts x.a).low (parts x.b).low (last_word (type_shape w) x))
-        value = type_row file words'' (drop q file) n.items x fine.items w kept known
+      the_row : RowOf the_type type_expr_items x.items.count (n.items + x.items.count ≤ max_items) (type_expr_by file words'' (type_number w) (parts x.a).low (parts x.b).low (last_word (type_shape w) x))
+      the_row = type_row file words'' (drop q file) n.items x fine.items w kept
 
-        row_is : type_expr_row file words'' n.types ≡ type_expr_by file words'' (type_number w) (parts x.a).low (parts x.b).low (last_word (type_shape w) x)
-        row_is = type_expr_put file n.types (type_number w) (parts x.a).low (parts x.b).low (last_word (type_shape w) x) put
+      row_is : type_expr_row file words'' n.types ≡ type_expr_by file words'' (type_number w) (parts x.a).low (parts x.b).low (last_word (type_shape w) x)
+      row_is = type_expr_put file n.types (type_number w) (parts x.a).low (parts x.b).low (last_word (type_shape w) x) put
 
-        listed : n.items + x.count ≤ max_items → word words'' (type_expr_place n.types) ≡ 5 → Listed (n.items + x.count) (word words'' (type_expr_place n.types + 3))
-        listed few e =
-            subst (Listed (n.items + x.count)) (sym (put.inside 3 (omega arith)))
-            (type_listed file words'' (drop q file) n.items x fine.items w kept few (sym (ap (word words'') (omega arith) ∙ put.inside 0 (omega arith)) ∙ e))
+      listed : n.items + x.items.count ≤ max_items → word words'' (type_expr_place n.types) ≡ 5 → Listed (n.items + x.items.count) (word words'' (type_expr_place n.types + 3))
+      listed few e =
+          subst (Listed (n.items + x.items.count)) (sym (put.inside 3 (omega arith)))
+          (type_listed file words'' (drop q file) n.items x fine.items w kept few (sym (ap (word words'') (omega arith) ∙ put.inside 0 (omega arith)) ∙ e))
 
-        pub type_put : LinePut LineWord.T file words n t words'' (Some (x.count, x.end))
-        unfolding row_entry entry_items
-        type_put =
-            record {
-              left = left_then (behind_left n fine behind) (put_left (type_apart n fine room) put);
-              line =
-                  record {
-                    entry = a_type value.value;
-                    is = type_read (tail_by file (type_shape w) x kept.list) (Some value.value) kept.is value.is;
-                    counts = value.counts;
-                    held = λ few. ap a_type (value.held few ∙ sym row_is);
-                    stays = λ few words''' left.
-                        ap a_type
-                        (type_expr_row_same file words'' words''' (n.items + x.count) left.items n.types
-                        (λ i a b. left.types i (omega arith) (omega arith)) (listed few));
-                    begins = tt;
-                  };
-            }
+      pub type_put : LinePut LineWord.T file words n t words'' (Some x.items)
+      unfolding row_entry entry_items
+      type_put =
+          record {
+            left = left_then (behind_left n fine behind) (put_left (type_apart n fine room) put);
+            line =
+                record {
+                  entry = a_type the_type;
+                  is = type_read (tail_by file (type_shape w) x kept.list) kept.is;
+                  counts = the_row.counts;
+                  held = λ few. ap a_type (the_row.held few ∙ sym row_is);
+                  stays = λ few words''' left.
+                      ap a_type
+                      (type_expr_row_same file words'' words''' (n.items + x.items.count) left.items n.types
+                      (λ i a b. left.types i (omega arith) (omega arith)) (listed few));
+                  begins = tt;
+                };
+          }

@@ -8,6 +8,8 @@ use Rattle.format.specs.Fields.{slot}
 use Rattle.format.specs.Tails.{Item, items, first_kind, second_kind}
 use Rattle.records.specs.Layout.{word, each, item_place, item_value, item_name}
 use Rattle.loader.specs.Values.{Words, value_by}
+use Rattle.loader.specs.declared.items.ItemWords.{ItemWords}
+use Rattle.loader.specs.declared.items.ItemsRead.{ItemsRead}
 
 -- ------------------------------------------------------------------ one item
 
@@ -43,9 +45,9 @@ item_by l file value name =
     record { first = value_by (first_kind l) file (one_word (first_word l value name)); second = value_by (second_kind l) file (one_word value) }
 
 -- an item's two words, and where it ends
-abbrev pub item_words_is : Listed → Text → Option (ℕ × ℕ × ℕ) → Option ItemHere
+abbrev pub item_words_is : Listed → Text → Option ItemWords → Option ItemHere
 item_words_is l file None = None
-item_words_is l file (Some r) = Some (record { item = item_by l file r.0 r.1; rest = drop r.2 file })
+item_words_is l file (Some r) = Some (record { item = item_by l file r.value r.name; rest = drop r.end file })
 
 -- ------------------------------------------------------------------ the items of a list
 
@@ -67,17 +69,17 @@ pub record ItemPut (words : List ℕ) (i value name : ℕ) (words' : List ℕ) :
   pub put_name : i < max_items → item_name words' i ≡ name
 
 -- a list that was read: its items stand in the rows from `first` on, if there is room for all
-pub record ItemsHeld (file words : List ℕ) (l : Listed) (t : Text) (first count end : ℕ) : Type 0 where
+pub record ItemsHeld (file words : List ℕ) (l : Listed) (t : Text) (first : ℕ) (r : ItemsRead) : Type 0 where
   pub list : List Item
-  pub is : items l t ≡ Some (record { list = list; rest = drop end file })
-  pub counts : length list ≡ count
-  pub held : first + count ≤ max_items → list ≡ items_by l file words first count
+  pub is : items l t ≡ Some (record { list = list; rest = drop r.end file })
+  pub counts : length list ≡ r.count
+  pub held : first + r.count ≤ max_items → list ≡ items_by l file words first r.count
 
 -- how many items there are, and where they end
-abbrev pub ItemsAre : List ℕ → List ℕ → Listed → Text → ℕ → Option (ℕ × ℕ) → Type 0
+abbrev pub ItemsAre : List ℕ → List ℕ → Listed → Text → ℕ → Option ItemsRead → Type 0
 ItemsAre file words l t first None = items l t ≡ None
-ItemsAre file words l t first (Some r) = ItemsHeld file words l t first r.0 r.1
+ItemsAre file words l t first (Some r) = ItemsHeld file words l t first r
 
-pub record ItemsPut (file words : List ℕ) (l : Listed) (t : Text) (first : ℕ) (words' : List ℕ) (r : Option (ℕ × ℕ)) : Type 0 where
+pub record ItemsPut (file words : List ℕ) (l : Listed) (t : Text) (first : ℕ) (words' : List ℕ) (r : Option ItemsRead) : Type 0 where
   pub behind : Behind first words words'
   pub are : ItemsAre file words' l t first r

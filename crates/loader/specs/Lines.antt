@@ -1,8 +1,7 @@
 -- A line that was read and written as the next row of its kind. Assumes nothing.
 use Rattle.std.specs.Prelude.{ℕ, ◌+◌, ◌*◌, ◌≤◌, ◌≡◌, List, Bool, true, false, not, eqb, length, drop}
 use Rattle.std.specs.Prelude.{Option, None, Some}
-use Rattle.model.specs.Common.{Text, let_some}
-use Rattle.model.specs.Records.{Origin}
+use Rattle.model.specs.Common.{Text}
 use Rattle.model.specs.Limits.{max_items}
 use Rattle.format.specs.declared.Kind.{Kind}
 use Rattle.format.specs.declared.Shape.{Shape}
@@ -10,14 +9,14 @@ use Rattle.format.specs.declared.ScopeWord.{ScopeWord}
 use Rattle.format.specs.declared.DefinitionWord.{DefinitionWord}
 use Rattle.format.specs.declared.LineWord.{LineWord}
 use Rattle.format.specs.Tails as tails
-use Rattle.format.specs.Words.{origin_word_of}
-use Rattle.format.specs.Shapes.{origin_shape, origin_as}
-use Rattle.format.specs.Lines.{Entry, entry_items, word_here, line_from}
+use Rattle.format.specs.Lines.{Entry, entry_items, origin_here, line_from}
 use Rattle.records.specs.Layout.{origin_by}
 use Rattle.loader.specs.Values.{parts, value_by}
 use Rattle.loader.specs.Items.{items_by, Behind}
 use Rattle.loader.specs.State.{row_entry, Left, Begins, counts_after}
 use Rattle.loader.specs.declared.rows.Counts.{Counts}
+use Rattle.loader.specs.declared.items.ItemsRead.{ItemsRead}
+use Rattle.loader.specs.declared.rows.OriginWords.{OriginWords}
 use Rattle.loader.specs.declared.rows.Tail.{Tail}
 
 -- ------------------------------------------------------------------ what stands behind a word
@@ -30,16 +29,16 @@ tail_by file shape x list =
       b = value_by shape.b file (parts x.b);
       c = value_by shape.c file (parts x.c);
       list = list;
-      rest = drop x.end file;
+      rest = drop x.items.end file;
     }
 
 pub record TailHeld (file words : List ℕ) (shape : Shape) (t : Text) (first : ℕ) (x : Tail) : Type 0 where
   pub list : List tails.Item
   pub is : tails.tail shape t ≡ Some (tail_by file shape x list)
-  pub counts : length list ≡ x.count
-  pub none : tails.is_empty_list shape.list ≡ true → x.count ≡ 0
-  pub held : first + x.count ≤ max_items → list ≡ items_by shape.list file words first x.count
-  pub packed : x.count ≤ max_items → x.list ≡ first + 65536 * x.count
+  pub counts : length list ≡ x.items.count
+  pub none : tails.is_empty_list shape.list ≡ true → x.items.count ≡ 0
+  pub held : first + x.items.count ≤ max_items → list ≡ items_by shape.list file words first x.items.count
+  pub packed : x.items.count ≤ max_items → x.list ≡ first + 65536 * x.items.count
 
 abbrev pub TailIs : List ℕ → List ℕ → Shape → Text → ℕ → Option Tail → Type 0
 TailIs file words shape t first None = tails.tail shape t ≡ None
@@ -75,7 +74,6 @@ scope_fits parent ScopeWord.Module = eqb parent 0
 scope_fits parent ScopeWord.Function = not (eqb parent 0)
 scope_fits parent ScopeWord.Block = not (eqb parent 0)
 scope_fits parent ScopeWord.Loop = not (eqb parent 0)
-scope_fits parent ScopeWord.Other = false
 
 -- a let without a destructured value has no path: the word, the value's word, how many items the path has
 abbrev pub path_fits : DefinitionWord → ℕ → ℕ → Bool
@@ -86,48 +84,35 @@ path_fits DefinitionWord.Let value count = elim (eqb value 0) [ true ↦ eqb cou
 path_fits DefinitionWord.Param value count = true
 path_fits DefinitionWord.Use value count = true
 path_fits DefinitionWord.Loop value count = true
-path_fits DefinitionWord.Other value count = true
 
 -- ------------------------------------------------------------------ the origin of an expression
 
--- as `expression_line` reads it, a wrong word being found where it stands
-pub record OriginHere : Type 0 where
-  pub origin : Origin
-  pub rest : Text
+pub record OriginHeld (file t : Text) (r : OriginWords) : Type 0 where
+  pub is : origin_here t ≡ Some (record { origin = origin_by file r.kind r.link r.value; rest = drop r.end file })
+  pub small : r.kind ≤ 5
 
-unfoldable pub origin_here : Text → Option OriginHere
-origin_here t =
-    let_some (word_here t) None λ v.
-    let_some (tails.three (origin_shape (origin_word_of v.word)).a (origin_shape (origin_word_of v.word)).b Kind.Nothing v.rest) None λ o.
-    let_some (origin_as (origin_word_of v.word) o) None λ origin. Some (record { origin = origin; rest = o.rest })
-
-pub record OriginHeld (file t : Text) (kind link value end : ℕ) : Type 0 where
-  pub is : origin_here t ≡ Some (record { origin = origin_by file kind link value; rest = drop end file })
-  pub small : kind ≤ 5
-
--- the origin's number, link and value, and where they end
-abbrev pub OriginIs : Text → Text → Option (ℕ × ℕ × ℕ × ℕ) → Type 0
+abbrev pub OriginIs : Text → Text → Option OriginWords → Type 0
 OriginIs file t None = origin_here t ≡ None
-OriginIs file t (Some r) = OriginHeld file t r.0 r.1 r.2 r.3
+OriginIs file t (Some r) = OriginHeld file t r
 
 -- ------------------------------------------------------------------ a line
 
 -- its record stands in the next row of its kind, if there is room for its items, and stays there while that row and the items are left
-pub record LineHeld (w : LineWord) (file words : List ℕ) (n : Counts) (t : Text) (count end : ℕ) : Type 0 where
+pub record LineHeld (w : LineWord) (file words : List ℕ) (n : Counts) (t : Text) (r : ItemsRead) : Type 0 where
   pub entry : Entry
-  pub is : line_from w t ≡ Some (record { entry = entry; rest = drop end file })
-  pub counts : entry_items entry ≡ count
-  pub held : n.items + count ≤ max_items → entry ≡ row_entry w file words n
+  pub is : line_from w t ≡ Some (record { entry = entry; rest = drop r.end file })
+  pub counts : entry_items entry ≡ r.count
+  pub held : n.items + r.count ≤ max_items → entry ≡ row_entry w file words n
   pub stays :
-      n.items + count ≤ max_items
-      → (words' : List ℕ) → Left (counts_after w n count) words words' → row_entry w file words' n ≡ row_entry w file words n
+      n.items + r.count ≤ max_items
+      → (words' : List ℕ) → Left (counts_after w n r.count) words words' → row_entry w file words' n ≡ row_entry w file words n
   pub begins : Begins w words n
 
 -- how many items the line's list has, and where its fields end
-abbrev pub LineIs : LineWord → List ℕ → List ℕ → Counts → Text → Option (ℕ × ℕ) → Type 0
+abbrev pub LineIs : LineWord → List ℕ → List ℕ → Counts → Text → Option ItemsRead → Type 0
 LineIs w file words n t None = line_from w t ≡ None
-LineIs w file words n t (Some r) = LineHeld w file words n t r.0 r.1
+LineIs w file words n t (Some r) = LineHeld w file words n t r
 
-pub record LinePut (w : LineWord) (file words : List ℕ) (n : Counts) (t : Text) (words' : List ℕ) (r : Option (ℕ × ℕ)) : Type 0 where
+pub record LinePut (w : LineWord) (file words : List ℕ) (n : Counts) (t : Text) (words' : List ℕ) (r : Option ItemsRead) : Type 0 where
   pub left : Left n words words'
   pub line : LineIs w file words' n t r

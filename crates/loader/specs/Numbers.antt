@@ -1,5 +1,5 @@
--- The number of a word in a row: its place in the list of its words (document 01's; of questions, those of the change requests behind them). A word that is none of them has the number behind the last. Assumes nothing.
-use Rattle.std.specs.Prelude.{ℕ, eqb, if◌then◌else◌, Option, None, Some}
+-- The number of a word in a row: its place in the list of its words (document 01's; of questions, those of the change requests behind them). Assumes nothing.
+use Rattle.std.specs.Prelude.{ℕ}
 use Rattle.format.specs.declared.ScopeWord.{ScopeWord}
 use Rattle.format.specs.declared.TypeWord.{TypeWord}
 use Rattle.format.specs.declared.DefinitionWord.{DefinitionWord}
@@ -7,16 +7,11 @@ use Rattle.format.specs.declared.OriginWord.{OriginWord}
 use Rattle.format.specs.declared.NodeWord.{NodeWord}
 use Rattle.format.specs.declared.QuestionWord.{QuestionWord}
 
--- the number of a word of the table; none where the number is the one behind the last
-abbrev pub known : ℕ → ℕ → Option ℕ
-known other n = if eqb n other then None else Some n
-
 abbrev pub scope_number : ScopeWord → ℕ
 scope_number ScopeWord.Module = 0
 scope_number ScopeWord.Function = 1
 scope_number ScopeWord.Block = 2
 scope_number ScopeWord.Loop = 3
-scope_number ScopeWord.Other = 4
 
 abbrev pub type_number : TypeWord → ℕ
 type_number TypeWord.Felt = 0
@@ -26,7 +21,6 @@ type_number TypeWord.Custom = 3
 type_number TypeWord.Ptr = 4
 type_number TypeWord.Tuple = 5
 type_number TypeWord.Array = 6
-type_number TypeWord.Other = 7
 
 abbrev pub definition_number : DefinitionWord → ℕ
 definition_number DefinitionWord.Fn = 0
@@ -36,7 +30,6 @@ definition_number DefinitionWord.Let = 3
 definition_number DefinitionWord.Param = 4
 definition_number DefinitionWord.Use = 5
 definition_number DefinitionWord.Loop = 6
-definition_number DefinitionWord.Other = 7
 
 abbrev pub origin_number : OriginWord → ℕ
 origin_number OriginWord.Plain = 0
@@ -45,7 +38,6 @@ origin_number OriginWord.Arg = 2
 origin_number OriginWord.Assign = 3
 origin_number OriginWord.Return = 4
 origin_number OriginWord.Cond = 5
-origin_number OriginWord.Other = 6
 
 abbrev pub node_number : NodeWord → ℕ
 node_number NodeWord.Lit = 0
@@ -64,11 +56,9 @@ node_number NodeWord.Rep = 12
 node_number NodeWord.Cast = 13
 node_number NodeWord.New = 14
 node_number NodeWord.Paren = 15
-node_number NodeWord.Other = 16
 
 abbrev pub question_number : QuestionWord → ℕ
 question_number QuestionWord.Expr = 0
 question_number QuestionWord.Def = 1
 question_number QuestionWord.OfType = 2
 question_number QuestionWord.At = 3
-question_number QuestionWord.Other = 4

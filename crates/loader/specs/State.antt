@@ -1,5 +1,5 @@
 -- What the words hold while the lines are read: rows, and the counts beside them. Assumes nothing.
-use Rattle.std.specs.Prelude.{ℕ, suc, ◌+◌, ◌-◌, ◌≤◌, ◌<◌, ◌≡◌, List, Bool, true, eqb, ltb, length}
+use Rattle.std.specs.Prelude.{ℕ, suc, ◌+◌, ◌-◌, ◌≤◌, ◌<◌, ◌≡◌, List, Bool, eqb, ltb, length}
 use Rattle.std.specs.Prelude.{if◌then◌else◌}
 use Rattle.model.specs.Common.{Text}
 use Rattle.model.specs.Records.{Module, Index}
@@ -68,7 +68,6 @@ seen_as version file words n = record { stage = n.stage; index = index_so_far ve
 
 -- ------------------------------------------------------------------ the next row of a kind
 
--- (no line has the word `Other`)
 unfoldable pub row_entry : LineWord → Text → List ℕ → Counts → Entry
 row_entry LineWord.M file words n = a_module (name_by file (word words (module_place n.modules)))
 row_entry LineWord.S file words n = a_scope (scope_row words n.scopes)
@@ -76,7 +75,6 @@ row_entry LineWord.T file words n = a_type (type_expr_row file words n.types)
 row_entry LineWord.D file words n = a_definition (definition_row file words n.definitions)
 row_entry LineWord.E file words n = an_expression (expression_row file words n.expressions)
 row_entry LineWord.Q file words n = a_question (question_row words n.questions)
-row_entry LineWord.Other file words n = a_question (question_row words n.questions)
 
 -- where a module's rows begin: behind those that there are
 pub record BeginsAt (words : List ℕ) (m : ℕ) (n : Counts) : Type 0 where
@@ -92,7 +90,6 @@ Begins LineWord.T words n = Unit {0}
 Begins LineWord.D words n = Unit {0}
 Begins LineWord.E words n = Unit {0}
 Begins LineWord.Q words n = Unit {0}
-Begins LineWord.Other words n = Unit {0}
 
 -- ------------------------------------------------------------------ room, and what a store leaves
 
@@ -134,8 +131,6 @@ counts_after LineWord.E n count =
     record { stage = stage_of LineWord.E; modules = n.modules; scopes = n.scopes; types = n.types; definitions = n.definitions; expressions = n.expressions + 1; questions = n.questions; items = n.items + count }
 counts_after LineWord.Q n count =
     record { stage = stage_of LineWord.Q; modules = n.modules; scopes = n.scopes; types = n.types; definitions = n.definitions; expressions = n.expressions; questions = n.questions + 1; items = n.items + count }
-counts_after LineWord.Other n count =
-    record { stage = stage_of LineWord.Other; modules = n.modules; scopes = n.scopes; types = n.types; definitions = n.definitions; expressions = n.expressions; questions = n.questions; items = n.items + count }
 
 -- there is room for one more line of the kind
 abbrev pub HasRoom : LineWord → Counts → Type 0
@@ -145,7 +140,6 @@ HasRoom LineWord.T n = n.types < 512
 HasRoom LineWord.D n = n.definitions < 256
 HasRoom LineWord.E n = n.expressions < 512
 HasRoom LineWord.Q n = n.questions < 256
-HasRoom LineWord.Other n = Unit {0}
 
 abbrev pub has_room : LineWord → Counts → Bool
 has_room LineWord.M n = ltb n.modules 8
@@ -154,4 +148,3 @@ has_room LineWord.T n = ltb n.types 512
 has_room LineWord.D n = ltb n.definitions 256
 has_room LineWord.E n = ltb n.expressions 512
 has_room LineWord.Q n = ltb n.questions 256
-has_room LineWord.Other n = true

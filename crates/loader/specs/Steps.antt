@@ -9,6 +9,7 @@ use Rattle.format.specs.FirstPass as pass
 use Rattle.records.specs.Layout.{module_place, word, each, name_by, scope_rows, type_expr_rows, definition_rows, expression_rows, begin_of}
 use Rattle.loader.specs.State.{index_so_far, seen_as, Left, Fine}
 use Rattle.loader.specs.declared.rows.Counts.{Counts}
+use Rattle.loader.specs.declared.lines.Next.{Next}
 use Rattle.refusals.specs.declared.FileRefusal.{FileRefusal}
 use Rattle.refusals.specs.Numbers.{file_refusal_number}
 
@@ -29,7 +30,6 @@ is_module LineWord.T = false
 is_module LineWord.D = false
 is_module LineWord.E = false
 is_module LineWord.Q = false
-is_module LineWord.Other = false
 
 abbrev pub repeated : Text → List ℕ → LineWord → ℕ → Bool
 repeated file words w n = is_module w && again file words n
@@ -64,15 +64,15 @@ pub record Good (file words : List ℕ) (n : Counts) : Type 0 where
 -- ------------------------------------------------------------------ a line
 
 -- a refusal, or what is counted then and where the next line begins
-abbrev pub step_is : ℕ → Text → List ℕ → Result (Counts × ℕ) FileRefusal → pass.Step
-step_is version file words (Ok r) = pass.go (seen_as version file words r.0) (drop r.1 file)
+abbrev pub step_is : ℕ → Text → List ℕ → Result Next FileRefusal → pass.Step
+step_is version file words (Ok r) = pass.go (seen_as version file words r.counts) (drop r.at file)
 step_is version file words (Err e) = pass.refuse (file_refusal_number e)
 
-abbrev pub GoodAfter : List ℕ → List ℕ → Result (Counts × ℕ) FileRefusal → Type 0
-GoodAfter file words (Ok r) = Good file words r.0
+abbrev pub GoodAfter : List ℕ → List ℕ → Result Next FileRefusal → Type 0
+GoodAfter file words (Ok r) = Good file words r.counts
 GoodAfter file words (Err e) = Unit {0}
 
-pub record Stepped (file words : List ℕ) (n : Counts) (t : Text) (words' : List ℕ) (r : Result (Counts × ℕ) FileRefusal) : Type 0 where
+pub record Stepped (file words : List ℕ) (n : Counts) (t : Text) (words' : List ℕ) (r : Result Next FileRefusal) : Type 0 where
   pub is : (version : ℕ) → step_is version file words' r ≡ pass.step_on (seen_as version file words n) t
   pub good : GoodAfter file words' r
   pub long : length words' ≡ length words

@@ -5,6 +5,8 @@ use Rattle.model.specs.Common.{Text}
 use Rattle.format.specs.declared.Kind.{Kind}
 use Rattle.format.specs.Fields.{Value, absent, number, text, Read}
 use Rattle.format.specs.Tails.{Three}
+use Rattle.loader.specs.declared.values.FieldWords.{FieldWords}
+use Rattle.loader.specs.declared.values.ThreeFields.{ThreeFields}
 use Rattle.records.specs.Layout.{link_by, name_by, suffix_by, size_by}
 
 -- a field's word, and the high word of an array's size
@@ -53,12 +55,14 @@ is_link Kind.BinaryOp = false
 is_link Kind.Unused = false
 
 -- a field's words as one number, and where it ends
-abbrev pub slot_words_is : Kind → Text → Option (ℕ × ℕ) → Option Read
+abbrev pub slot_words_is : Kind → Text → Option FieldWords → Option Read
 slot_words_is k file None = None
-slot_words_is k file (Some r) = Some (record { value = value_by k file (parts r.0); rest = drop r.1 file })
+slot_words_is k file (Some r) = Some (record { value = value_by k file (parts r.words); rest = drop r.end file })
 
 -- the same of three fields
-abbrev pub three_words_is : Kind → Kind → Kind → Text → Option (ℕ × ℕ × ℕ × ℕ) → Option Three
+abbrev pub three_by : Kind → Kind → Kind → Text → ThreeFields → Three
+three_by ka kb kc file r = record { a = value_by ka file (parts r.a); b = value_by kb file (parts r.b); c = value_by kc file (parts r.c); rest = drop r.end file }
+
+abbrev pub three_words_is : Kind → Kind → Kind → Text → Option ThreeFields → Option Three
 three_words_is ka kb kc file None = None
-three_words_is ka kb kc file (Some r) =
-    Some (record { a = value_by ka file (parts r.0); b = value_by kb file (parts r.1); c = value_by kc file (parts r.2); rest = drop r.3 file })
+three_words_is ka kb kc file (Some r) = Some (three_by ka kb kc file r)

@@ -8,6 +8,21 @@ use format::{Kind, Listed};
 
 pub const MAX_ITEMS: usize = 2048;
 
+// An item's two words, and where it ends.
+#[derive(Clone, Copy)]
+struct ItemWords {
+    value: u32,
+    name: u32,
+    end: usize,
+}
+
+// How many items a line's list has, and where they end.
+#[derive(Clone, Copy)]
+pub struct ItemsRead {
+    pub count: usize,
+    pub end: usize,
+}
+
 fn first_kind(listed: Listed) -> Kind
     ensures { result ≡ first_kind listed }
 {
@@ -44,20 +59,28 @@ fn is_named(listed: Listed) -> bool
 fn at_end(file: &[u8], at: usize) -> bool
     ensures { result ≡ at_end (drop at file.now) }
 {
-    file.len() <= at || file[at] != 9
+    !words::is_byte(file, at, b'\t')
 }
 
-// An item's two words, and where it ends.
-fn item_words(file: &[u8], listed: Listed, at: usize) -> Option<(u32, u32, usize)>
+fn item_words(file: &[u8], listed: Listed, at: usize) -> Option<ItemWords>
     requires { length file.now ≤ 65536 }
     ensures { item_words_is listed file.now result ≡ item_here listed (drop at file.now) }
 {
-    let (a, ea) = values::slot_words(file, first_kind(listed), at)?;
-    let (b, eb) = values::slot_words(file, second_kind(listed), ea)?;
+    let a = values::slot_words(file, first_kind(listed), at)?;
+    let b = values::slot_words(file, second_kind(listed), a.end)?;
+    let end = b.end;
     if is_named(listed) {
-        return Some((values::low(b), values::low(a), eb));
+        return Some(ItemWords {
+            value: values::low(b.words),
+            name: values::low(a.words),
+            end,
+        });
     }
-    Some((values::low(a), 0, eb))
+    Some(ItemWords {
+        value: values::low(a.words),
+        name: 0,
+        end,
+    })
 }
 
 // An item past the last is read but not written: the form of a line is judged before the limit.
@@ -71,26 +94,26 @@ fn put_item(words: &mut [u32], i: usize, value: u32, name: u32)
     }
 }
 
-// How many items there are, and where they end. Where an item ends is known only when it is read, so no `for` goes over the bytes.
+// Where an item ends is known only when it is read, so no `for` goes over the bytes.
 fn read_list(
     file: &[u8],
     listed: Listed,
     at: usize,
     words: &mut [u32],
     first: usize,
-) -> Option<(usize, usize)>
+) -> Option<ItemsRead>
     requires { (length file.now ≤ 65536) × (length words.old ≡ 16384) × (first ≤ 2048) × (is_empty_list listed ≡ false) }
     ensures { ItemsPut file.now words.old listed (drop at file.now) first words.new result }
 {
-    let mut e = at;
-    let mut i: usize = 0;
-    while !at_end(file, e) {
-        let (value, name, end) = item_words(file, listed, e)?;
-        put_item(words, first + i, value, name);
-        i += 1;
-        e = end;
+    let mut end = at;
+    let mut count: usize = 0;
+    while !at_end(file, end) {
+        let item = item_words(file, listed, end)?;
+        put_item(words, first + count, item.value, item.name);
+        count += 1;
+        end = item.end;
     }
-    Some((i, e))
+    Some(ItemsRead { count, end })
 }
 
 // The same where there may be no list: no items, and none may stand there.
@@ -100,15 +123,12 @@ pub fn read_items(
     at: usize,
     words: &mut [u32],
     first: usize,
-) -> Option<(usize, usize)>
+) -> Option<ItemsRead>
     requires { (length file.now ≤ 65536) × (length words.old ≡ 16384) × (first ≤ 2048) }
     ensures { ItemsPut file.now words.old listed (drop at file.now) first words.new result }
 {
     if !is_empty_list(listed) {
         return read_list(file, listed, at, words, first);
     }
-    if at_end(file, at) {
-        return Some((0, at));
-    }
-    None
+    at_end(file, at).then_some(ItemsRead { count: 0, end: at })
 }

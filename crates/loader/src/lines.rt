@@ -5,6 +5,7 @@ ghost use Rattle.loader.specs.State.{Fine, HasRoom, has_room, counts_after};
 ghost use Rattle.loader.specs.Lines.{LinePut};
 ghost use Rattle.loader.specs.Steps.{is_module, again, repeated, may_stand, Good, Stepped};
 
+use crate::items::ItemsRead;
 use crate::rows::Counts;
 use crate::{items, rows};
 use format::LineWord;
@@ -21,7 +22,6 @@ fn has_line_room(word: LineWord, n: Counts) -> bool
         LineWord::D => n.definitions < 256,
         LineWord::E => n.expressions < 512,
         LineWord::Q => n.questions < 256,
-        LineWord::Other => true,
     }
 }
 
@@ -36,7 +36,6 @@ fn stage_of(word: LineWord) -> u32
         LineWord::D => 4,
         LineWord::E => 5,
         LineWord::Q => 6,
-        LineWord::Other => 0,
     }
 }
 
@@ -51,7 +50,6 @@ fn in_place(word: LineWord, stage: u32) -> bool
         LineWord::D => (1 <= stage) && (stage <= 4),
         LineWord::E => (1 <= stage) && (stage <= 5),
         LineWord::Q => true,
-        LineWord::Other => false,
     }
 }
 
@@ -60,13 +58,7 @@ fn is_again(file: &[u8], words: &[u32], n: u32) -> bool
     ensures { result ≡ again file.now words.now n }
 {
     let name = records::module_name(words, n);
-    for m in 0..n {
-        let other = records::module_name(words, m);
-        if semantic_index::names::same_name(file, other, name) {
-            return true;
-        }
-    }
-    false
+    (0..n).any(|m| semantic_index::names::same_name(file, records::module_name(words, m), name))
 }
 
 fn is_module(word: LineWord) -> bool
@@ -104,7 +96,6 @@ fn counted(word: LineWord, n: Counts, count: usize) -> Counts
         LineWord::D => r.definitions = n.definitions + 1,
         LineWord::E => r.expressions = n.expressions + 1,
         LineWord::Q => r.questions = n.questions + 1,
-        LineWord::Other => {}
     }
     r
 }
@@ -116,7 +107,7 @@ fn read_line(
     at: usize,
     words: &mut [u32],
     n: Counts,
-) -> Option<(usize, usize)>
+) -> Option<ItemsRead>
     requires { Fine file.now words.old n × HasRoom word n }
     ensures { LinePut word file.now words.old n (drop at file.now) words.new result }
 {
@@ -127,36 +118,42 @@ fn read_line(
         LineWord::D => rows::read_definition(file, at, words, n),
         LineWord::E => rows::read_expression(file, at, words, n),
         LineWord::Q => rows::read_question(file, at, words, n),
-        LineWord::Other => None,
     }
 }
 
-// The line that begins at `at`: a refusal, or what is counted then and where the next line begins.
-pub fn step_on(
-    file: &[u8],
-    at: usize,
-    words: &mut [u32],
-    n: Counts,
-) -> Result<(Counts, usize), FileRefusal>
+// What is counted then, and where the next line begins.
+#[derive(Clone, Copy)]
+pub struct Next {
+    pub counts: Counts,
+    pub at: usize,
+}
+
+// The line that begins at `at`.
+pub fn step_on(file: &[u8], at: usize, words: &mut [u32], n: Counts) -> Result<Next, FileRefusal>
     requires { Good file.now words.old n × (at ≤ length file.now) }
     ensures { Stepped file.now words.old n (drop at file.now) words.new result }
 {
     let p = words::field_end(file, at);
-    let word: LineWord = words::word(&file[at..p]);
+    let Some(word) = words::word(&file[at..p]) else {
+        return Err(FileRefusal::Form);
+    };
     if !has_line_room(word, n) {
         return Err(FileRefusal::Limit);
     }
-    let Some((count, end)) = read_line(file, word, p, words, n) else {
+    let Some(read) = read_line(file, word, p, words, n) else {
         return Err(FileRefusal::Form);
     };
-    if items::MAX_ITEMS - n.items < count {
+    if items::MAX_ITEMS - n.items < read.count {
         return Err(FileRefusal::Limit);
     }
     if !may_stand(file, words, word, n.stage, n.modules as u32) {
         return Err(FileRefusal::Form);
     }
-    if file.len() <= end || file[end] != 10 {
+    if !words::is_byte(file, read.end, b'\n') {
         return Err(FileRefusal::Form);
     }
-    Ok((counted(word, n, count), end + 1))
+    Ok(Next {
+        counts: counted(word, n, read.count),
+        at: read.end + 1,
+    })
 }

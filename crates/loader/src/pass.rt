@@ -49,13 +49,12 @@ pub fn first_pass(
     let mut at = from;
     let mut line: u32 = 2;
     while at < file.len() {
-        match lines::step_on(file, at, words, n) {
-            Err(refusal) => return Err(FileRefused { refusal, line }),
-            Ok((m, e)) => {
-                n = m;
-                at = e;
-            }
-        }
+        let next = lines::step_on(file, at, words, n).map_err(|refusal| FileRefused {
+            refusal,
+            line,
+        })?;
+        n = next.counts;
+        at = next.at;
         line += 1;
     }
     finish(file, words, n, version);

@@ -6,7 +6,9 @@ ghost use Rattle.records.specs.Promises.{Put};
 ghost use Rattle.loader.specs.State.{Fine, HasRoom};
 ghost use Rattle.loader.specs.Lines.{TailPut, is_size, last_word, scope_fits, path_fits, OriginIs, LinePut};
 
+use crate::items::ItemsRead;
 use crate::{items, shapes, values};
+use fields::WordRead;
 use format::{
     DefinitionWord, Kind, NodeWord, OriginWord, QuestionWord, ScopeWord, Shape, TypeWord,
 };
@@ -24,14 +26,22 @@ pub struct Counts {
     pub items: usize,
 }
 
-// What stands behind a word: three fields' words, the list's word and how many items it has, and where all that ends.
+// What stands behind a word: three fields' words, the list's word, and its items, where all that ends.
 #[derive(Clone, Copy)]
 pub struct Tail {
     pub a: u64,
     pub b: u64,
     pub c: u64,
     pub list: u32,
-    pub count: usize,
+    pub items: ItemsRead,
+}
+
+// An expression's origin: its number, its link and its value, and where they end.
+#[derive(Clone, Copy)]
+pub struct OriginWords {
+    pub kind: u32,
+    pub link: u32,
+    pub value: u32,
     pub end: usize,
 }
 
@@ -52,15 +62,14 @@ fn read_tail(file: &[u8], shape: Shape, at: usize, words: &mut [u32], first: usi
     requires { (length file.now ≤ 65536) × (length words.old ≡ 16384) × (first ≤ 2048) }
     ensures { TailPut file.now words.old shape (drop at file.now) first words.new result }
 {
-    let (a, b, c, e) = values::three_words(file, shape.a, shape.b, shape.c, at)?;
-    let (count, end) = items::read_items(file, shape.list, e, words, first)?;
+    let three = values::three_words(file, shape.a, shape.b, shape.c, at)?;
+    let items = items::read_items(file, shape.list, three.end, words, first)?;
     Some(Tail {
-        a,
-        b,
-        c,
-        list: list_word(first, count),
-        count,
-        end,
+        a: three.a,
+        b: three.b,
+        c: three.c,
+        list: list_word(first, items.count),
+        items,
     })
 }
 
@@ -96,7 +105,7 @@ pub fn put(words: &mut [u32], at: usize, row: &[u32])
 // Each of the six gives how many items the line's list has, and where its fields end.
 
 // M: the name, and where the module's rows of each kind begin.
-pub fn read_module(file: &[u8], at: usize, words: &mut [u32], n: Counts) -> Option<(usize, usize)>
+pub fn read_module(file: &[u8], at: usize, words: &mut [u32], n: Counts) -> Option<ItemsRead>
     requires { Fine file.now words.old n × HasRoom LineWord.M n }
     ensures { LinePut LineWord.M file.now words.old n (drop at file.now) words.new result }
 {
@@ -114,7 +123,7 @@ pub fn read_module(file: &[u8], at: usize, words: &mut [u32], n: Counts) -> Opti
             0,
         ],
     );
-    Some((tail.count, tail.end))
+    Some(tail.items)
 }
 
 fn scope_fits(parent: u32, word: ScopeWord) -> bool
@@ -123,51 +132,48 @@ fn scope_fits(parent: u32, word: ScopeWord) -> bool
     match word {
         ScopeWord::Module => parent == 0,
         ScopeWord::Function | ScopeWord::Block | ScopeWord::Loop => parent != 0,
-        ScopeWord::Other => false,
     }
 }
 
 // S
-pub fn read_scope(file: &[u8], at: usize, words: &mut [u32], n: Counts) -> Option<(usize, usize)>
+pub fn read_scope(file: &[u8], at: usize, words: &mut [u32], n: Counts) -> Option<ItemsRead>
     requires { Fine file.now words.old n × HasRoom LineWord.S n }
     ensures { LinePut LineWord.S file.now words.old n (drop at file.now) words.new result }
 {
-    let (parent, e) = values::slot_words(file, Kind::MaybeNumber, at)?;
-    let (p, q) = fields::word_here(file, e)?;
-    let word: ScopeWord = words::word(&file[p..q]);
-    let tail = read_tail(file, shapes::bare(), q, words, n.items)?;
-    if !scope_fits(values::low(parent), word) {
+    let up = values::slot_words(file, Kind::MaybeNumber, at)?;
+    let parent = values::low(up.words);
+    let kind: WordRead<ScopeWord> = fields::word_here(file, up.end)?;
+    let tail = read_tail(file, shapes::bare(), kind.end, words, n.items)?;
+    if !scope_fits(parent, kind.word) {
         return None;
     }
     put(
         words,
         records::SCOPES + 2 * n.scopes,
-        &[values::low(parent), shapes::scope_number(word)],
+        &[parent, shapes::scope_number(kind.word)],
     );
-    Some((tail.count, tail.end))
+    Some(tail.items)
 }
 
 // T
-pub fn read_type(file: &[u8], at: usize, words: &mut [u32], n: Counts) -> Option<(usize, usize)>
+pub fn read_type(file: &[u8], at: usize, words: &mut [u32], n: Counts) -> Option<ItemsRead>
     requires { Fine file.now words.old n × HasRoom LineWord.T n }
     ensures { LinePut LineWord.T file.now words.old n (drop at file.now) words.new result }
 {
-    let (p, q) = fields::word_here(file, at)?;
-    let word: TypeWord = words::word(&file[p..q]);
-    let shape = shapes::type_shape(word);
-    let tail = read_tail(file, shape, q, words, n.items)?;
-    let kind = shapes::type_number(word)?;
+    let kind: WordRead<TypeWord> = fields::word_here(file, at)?;
+    let shape = shapes::type_shape(kind.word);
+    let tail = read_tail(file, shape, kind.end, words, n.items)?;
     put(
         words,
         records::TYPE_EXPRS + 4 * n.types,
         &[
-            kind,
+            shapes::type_number(kind.word),
             values::low(tail.a),
             values::low(tail.b),
             last_word(shape, tail),
         ],
     );
-    Some((tail.count, tail.end))
+    Some(tail.items)
 }
 
 // A let: "v is the destructured value; with `-` there is no path".
@@ -178,34 +184,27 @@ fn path_fits(word: DefinitionWord, value: u32, count: usize) -> bool
 }
 
 // D
-pub fn read_definition(
-    file: &[u8],
-    at: usize,
-    words: &mut [u32],
-    n: Counts,
-) -> Option<(usize, usize)>
+pub fn read_definition(file: &[u8], at: usize, words: &mut [u32], n: Counts) -> Option<ItemsRead>
     requires { Fine file.now words.old n × HasRoom LineWord.D n }
     ensures { LinePut LineWord.D file.now words.old n (drop at file.now) words.new result }
 {
-    let (scope, name, name_start, e) = values::three_words(
-        file,
-        Kind::Number,
-        Kind::Name,
-        Kind::Position,
-        at,
-    )?;
-    let (name_end, full_start, full_end, f) = values::three_words(
+    let head = values::three_words(file, Kind::Number, Kind::Name, Kind::Position, at)?;
+    let spans = values::three_words(
         file,
         Kind::Position,
         Kind::Position,
         Kind::Position,
-        e,
+        head.end,
     )?;
-    let (p, q) = fields::word_here(file, f)?;
-    let word: DefinitionWord = words::word(&file[p..q]);
-    let tail = read_tail(file, shapes::definition_shape(word), q, words, n.items)?;
-    let kind = shapes::definition_number(word)?;
-    if !path_fits(word, values::low(tail.c), tail.count) {
+    let kind: WordRead<DefinitionWord> = fields::word_here(file, spans.end)?;
+    let tail = read_tail(
+        file,
+        shapes::definition_shape(kind.word),
+        kind.end,
+        words,
+        n.items,
+    )?;
+    if !path_fits(kind.word, values::low(tail.c), tail.items.count) {
         return None;
     }
     let row = records::DEFINITIONS + 12 * n.definitions;
@@ -213,13 +212,13 @@ pub fn read_definition(
         words,
         row,
         &[
-            kind,
-            values::low(scope),
-            values::low(name),
-            values::low(name_start),
-            values::low(name_end),
-            values::low(full_start),
-            values::low(full_end),
+            shapes::definition_number(kind.word),
+            values::low(head.a),
+            values::low(head.b),
+            values::low(head.c),
+            values::low(spans.a),
+            values::low(spans.b),
+            values::low(spans.c),
             values::low(tail.a),
             values::low(tail.b),
             values::low(tail.c),
@@ -227,91 +226,85 @@ pub fn read_definition(
             0,
         ],
     );
-    Some((tail.count, tail.end))
+    Some(tail.items)
 }
 
 // Q
-pub fn read_question(file: &[u8], at: usize, words: &mut [u32], n: Counts) -> Option<(usize, usize)>
+pub fn read_question(file: &[u8], at: usize, words: &mut [u32], n: Counts) -> Option<ItemsRead>
     requires { Fine file.now words.old n × HasRoom LineWord.Q n }
     ensures { LinePut LineWord.Q file.now words.old n (drop at file.now) words.new result }
 {
-    let (p, q) = fields::word_here(file, at)?;
-    let word: QuestionWord = words::word(&file[p..q]);
-    let tail = read_tail(file, shapes::question_shape(word), q, words, n.items)?;
-    let kind = shapes::question_number(word)?;
+    let kind: WordRead<QuestionWord> = fields::word_here(file, at)?;
+    let tail = read_tail(
+        file,
+        shapes::question_shape(kind.word),
+        kind.end,
+        words,
+        n.items,
+    )?;
     put(
         words,
         records::QUESTIONS + 4 * n.questions,
         &[
-            kind,
+            shapes::question_number(kind.word),
             values::low(tail.a),
             values::low(tail.b),
             values::low(tail.c),
         ],
     );
-    Some((tail.count, tail.end))
+    Some(tail.items)
 }
 
-// E, behind its head: the origin's number, link and value, and where they end.
-fn read_origin(file: &[u8], at: usize) -> Option<(u32, u32, u32, usize)>
+// E, behind its head.
+fn read_origin(file: &[u8], at: usize) -> Option<OriginWords>
     requires { length file.now ≤ 65536 }
     ensures { OriginIs file.now (drop at file.now) result }
 {
-    let (p, q) = fields::word_here(file, at)?;
-    let word: OriginWord = words::word(&file[p..q]);
-    let shape = shapes::origin_shape(word);
-    let (link, value, _, e) = values::three_words(file, shape.a, shape.b, Kind::Nothing, q)?;
-    let kind = shapes::origin_number(word)?;
-    Some((kind, values::low(link), values::low(value), e))
+    let kind: WordRead<OriginWord> = fields::word_here(file, at)?;
+    let shape = shapes::origin_shape(kind.word);
+    let three = values::three_words(file, shape.a, shape.b, Kind::Nothing, kind.end)?;
+    Some(OriginWords {
+        kind: shapes::origin_number(kind.word),
+        link: values::low(three.a),
+        value: values::low(three.b),
+        end: three.end,
+    })
 }
 
 // E
-pub fn read_expression(
-    file: &[u8],
-    at: usize,
-    words: &mut [u32],
-    n: Counts,
-) -> Option<(usize, usize)>
+pub fn read_expression(file: &[u8], at: usize, words: &mut [u32], n: Counts) -> Option<ItemsRead>
     requires { Fine file.now words.old n × HasRoom LineWord.E n }
     ensures { LinePut LineWord.E file.now words.old n (drop at file.now) words.new result }
 {
-    let (scope, start, end, e) = values::three_words(
-        file,
-        Kind::Number,
-        Kind::Position,
-        Kind::Position,
-        at,
-    )?;
-    let (expected, definition, _, f) = values::three_words(
+    let head = values::three_words(file, Kind::Number, Kind::Position, Kind::Position, at)?;
+    let links = values::three_words(
         file,
         Kind::MaybeNumber,
         Kind::MaybeNumber,
         Kind::Nothing,
-        e,
+        head.end,
     )?;
-    let (origin, link, value, g) = read_origin(file, f)?;
-    let (p, q) = fields::word_here(file, g)?;
-    let word: NodeWord = words::word(&file[p..q]);
-    let shape = shapes::node_shape(word);
-    let tail = read_tail(file, shape, q, words, n.items)?;
-    let node = shapes::node_number(word)?;
+    let origin = read_origin(file, links.end)?;
+    let kind: WordRead<NodeWord> = fields::word_here(file, origin.end)?;
+    let shape = shapes::node_shape(kind.word);
+    let tail = read_tail(file, shape, kind.end, words, n.items)?;
     let row = records::EXPRESSIONS + 11 * n.expressions;
     put(
         words,
         row,
         &[
-            node + 256 * origin,
-            values::low(scope),
-            values::low(start),
-            values::low(end),
-            values::low(expected),
-            values::low(definition),
-            link,
-            value,
+            shapes::node_number(kind.word) + 256 * origin.kind,
+            values::low(head.a),
+            values::low(head.b),
+            values::low(head.c),
+            values::low(links.a),
+            values::low(links.b),
+            origin.link,
+            origin.value,
             values::low(tail.a),
             values::low(tail.b),
             last_word(shape, tail),
         ],
     );
-    Some((tail.count, tail.end))
+    Some(tail.items)
 }

@@ -3,7 +3,7 @@ ghost use Rattle.std.specs.Prelude.{◌≡◌};
 ghost use Rattle.format.specs.declared.Kind.{Kind};
 ghost use Rattle.format.specs.declared.Listed.{Listed};
 ghost use Rattle.format.specs.Shapes.{bare, module_shape, type_shape, definition_shape, origin_shape, node_shape, question_shape};
-ghost use Rattle.loader.specs.Numbers.{known, scope_number, type_number, definition_number, origin_number, node_number, question_number};
+ghost use Rattle.loader.specs.Numbers.{scope_number, type_number, definition_number, origin_number, node_number, question_number};
 
 use format::{
     DefinitionWord, Kind, Listed, NodeWord, OriginWord, QuestionWord, ScopeWord, Shape, TypeWord,
@@ -56,22 +56,11 @@ pub fn type_shape(word: TypeWord) -> Shape
     ensures { result ≡ type_shape word }
 {
     match word {
-        TypeWord::Felt | TypeWord::Bool | TypeWord::U32 | TypeWord::Other => bare(),
+        TypeWord::Felt | TypeWord::Bool | TypeWord::U32 => bare(),
         TypeWord::Custom => one(Kind::Name),
         TypeWord::Ptr => one(Kind::Number),
         TypeWord::Tuple => listed(bare(), Listed::Numbers),
         TypeWord::Array => two(Kind::Number, Kind::Size),
-    }
-}
-
-// The number of a word in a row, if it is one of the table's. Each kind of word has a function of its own: a trait would only repeat the
-// bodies.
-pub fn type_number(word: TypeWord) -> Option<u32>
-    ensures { result ≡ known 7 (type_number word) }
-{
-    match word {
-        TypeWord::Other => None,
-        _ => Some(word as u32),
     }
 }
 
@@ -88,16 +77,7 @@ pub fn definition_shape(word: DefinitionWord) -> Shape
         ),
         DefinitionWord::Param => one(Kind::Number),
         DefinitionWord::Use => two(Kind::Name, Kind::Name),
-        DefinitionWord::Loop | DefinitionWord::Other => bare(),
-    }
-}
-
-pub fn definition_number(word: DefinitionWord) -> Option<u32>
-    ensures { result ≡ known 7 (definition_number word) }
-{
-    match word {
-        DefinitionWord::Other => None,
-        _ => Some(word as u32),
+        DefinitionWord::Loop => bare(),
     }
 }
 
@@ -111,16 +91,6 @@ pub fn origin_shape(word: OriginWord) -> Shape
         OriginWord::Plain | OriginWord::Return | OriginWord::Cond => {
             two(Kind::Unused, Kind::Unused)
         }
-        OriginWord::Other => bare(),
-    }
-}
-
-pub fn origin_number(word: OriginWord) -> Option<u32>
-    ensures { result ≡ known 6 (origin_number word) }
-{
-    match word {
-        OriginWord::Other => None,
-        _ => Some(word as u32),
     }
 }
 
@@ -143,16 +113,7 @@ pub fn node_shape(word: NodeWord) -> Shape
         NodeWord::Cast => one(Kind::Number),
         NodeWord::New => two(Kind::Number, Kind::MaybeNumber),
         NodeWord::Paren => one(Kind::MaybeNumber),
-        NodeWord::Bool | NodeWord::Other => bare(),
-    }
-}
-
-pub fn node_number(word: NodeWord) -> Option<u32>
-    ensures { result ≡ known 16 (node_number word) }
-{
-    match word {
-        NodeWord::Other => None,
-        _ => Some(word as u32),
+        NodeWord::Bool => bare(),
     }
 }
 
@@ -164,21 +125,42 @@ pub fn question_shape(word: QuestionWord) -> Shape
         QuestionWord::Def => two(Kind::Number, Kind::Number),
         QuestionWord::OfType => three(Kind::Number, Kind::Number, Kind::Number),
         QuestionWord::At => two(Kind::Number, Kind::Position),
-        QuestionWord::Other => bare(),
     }
 }
 
-pub fn question_number(word: QuestionWord) -> Option<u32>
-    ensures { result ≡ known 4 (question_number word) }
-{
-    match word {
-        QuestionWord::Other => None,
-        _ => Some(word as u32),
-    }
-}
-
+// The number of a word in a row. Each kind of word has a function of its own: a trait would only repeat the bodies.
 pub fn scope_number(word: ScopeWord) -> u32
     ensures { result ≡ scope_number word }
+{
+    word as u32
+}
+
+pub fn type_number(word: TypeWord) -> u32
+    ensures { result ≡ type_number word }
+{
+    word as u32
+}
+
+pub fn definition_number(word: DefinitionWord) -> u32
+    ensures { result ≡ definition_number word }
+{
+    word as u32
+}
+
+pub fn origin_number(word: OriginWord) -> u32
+    ensures { result ≡ origin_number word }
+{
+    word as u32
+}
+
+pub fn node_number(word: NodeWord) -> u32
+    ensures { result ≡ node_number word }
+{
+    word as u32
+}
+
+pub fn question_number(word: QuestionWord) -> u32
+    ensures { result ≡ question_number word }
 {
     word as u32
 }

@@ -38,34 +38,51 @@ fn name_words(start: usize, count: usize) -> u64
     (start + 65536 * count) as u64
 }
 
-// A field's words as one number, the low word first, and where the field ends. Only an array's size has a high word.
-pub fn slot_words(file: &[u8], kind: Kind, at: usize) -> Option<(u64, usize)>
+// A field's words as one number, the low word first, and where the field ends.
+#[derive(Clone, Copy)]
+pub struct FieldWords {
+    pub words: u64,
+    pub end: usize,
+}
+
+// The same of three fields, and where the last ends.
+#[derive(Clone, Copy)]
+pub struct ThreeFields {
+    pub a: u64,
+    pub b: u64,
+    pub c: u64,
+    pub end: usize,
+}
+
+// The words of the field behind the tab at `at`. Only an array's size has a high word.
+pub fn slot_words(file: &[u8], kind: Kind, at: usize) -> Option<FieldWords>
     requires { length file.now ≤ 65536 }
     ensures { slot_words_is kind file.now result ≡ slot kind (drop at file.now) }
 {
     let slot = fields::read_slot(file, kind, at)?;
-    let word = match slot.value {
+    let words = match slot.value {
         Value::Absent => 0,
         Value::Number(n) if is_link(kind) => n + 1,
         Value::Number(n) => n,
         Value::Text(p, n) => name_words(p, n),
     };
-    Some((word, slot.end))
+    Some(FieldWords {
+        words,
+        end: slot.end,
+    })
 }
 
-// Three fields' words, and where the last ends.
-pub fn three_words(
-    file: &[u8],
-    ka: Kind,
-    kb: Kind,
-    kc: Kind,
-    at: usize,
-) -> Option<(u64, u64, u64, usize)>
+pub fn three_words(file: &[u8], ka: Kind, kb: Kind, kc: Kind, at: usize) -> Option<ThreeFields>
     requires { length file.now ≤ 65536 }
     ensures { three_words_is ka kb kc file.now result ≡ three ka kb kc (drop at file.now) }
 {
-    let (a, ea) = slot_words(file, ka, at)?;
-    let (b, eb) = slot_words(file, kb, ea)?;
-    let (c, ec) = slot_words(file, kc, eb)?;
-    Some((a, b, c, ec))
+    let a = slot_words(file, ka, at)?;
+    let b = slot_words(file, kb, a.end)?;
+    let c = slot_words(file, kc, b.end)?;
+    Some(ThreeFields {
+        a: a.words,
+        b: b.words,
+        c: c.words,
+        end: c.end,
+    })
 }

@@ -5,7 +5,7 @@ use mathlib.Core.Path.{◌≡◌, refl, sym, ap, ◌∙◌}
 use mathlib.Core.List.{List, [], ◌∷◌}
 use mathlib.Core.Bool.{Bool, true, false, ◌&&◌, false≢true}
 use Rattle.std.specs.Prelude.{Option, None, Some}
-use native.Mathlib.Nat.{add-zero, mod-lt}
+use native.Mathlib.Nat.{add-zero}
 use native.Mathlib.Omega.{arith}
 use lib.Dec.{eqb, leb}
 use lib.ListN.{length, take, drop, get_or, length-drop, drop_of_length-le}
@@ -26,13 +26,6 @@ other_length xs ys n = by (eq_numbers xs ys) refl
     by false e = refl
 
 -- ------------------------------------------------------------------ the one word that a field can be
-
-pub hash_empty : (field : Text) → length field < 1 → 0 ≡ hash_of field
-hash_empty [] h = refl
-hash_empty (b ∷ t) h = absurd (omega arith)
-
-pub hash_below : (field : Text) → hash_of field < 32
-hash_below field = mod-lt _ (omega arith)
 
 -- no cell begins behind the table's end
 no_cell : (table : Text) (k : ℕ) → length table ≤ k * 9 → cell_word table k ≡ None

@@ -18,38 +18,31 @@ use Rattle.format.specs.Words.{
   node_word_of,
   question_word_of,
 }
-use Rattle.format.specs.declared.LineWord.{LineWord}
-use Rattle.format.specs.declared.ScopeWord.{ScopeWord}
-use Rattle.format.specs.declared.TypeWord.{TypeWord}
-use Rattle.format.specs.declared.DefinitionWord.{DefinitionWord}
-use Rattle.format.specs.declared.OriginWord.{OriginWord}
-use Rattle.format.specs.declared.NodeWord.{NodeWord}
-use Rattle.format.specs.declared.QuestionWord.{QuestionWord}
 
-pub line_by_words : (field : Text) → word_in line_words LineWord.Other field ≡ line_word_of field
+pub line_by_words : (field : Text) → word_in line_words field ≡ line_word_of field
 unfolding line_word_of
 line_by_words field = refl
 
-pub scope_by_words : (field : Text) → word_in scope_words ScopeWord.Other field ≡ scope_word_of field
+pub scope_by_words : (field : Text) → word_in scope_words field ≡ scope_word_of field
 unfolding scope_word_of
 scope_by_words field = refl
 
-pub type_by_words : (field : Text) → word_in type_words TypeWord.Other field ≡ type_word_of field
+pub type_by_words : (field : Text) → word_in type_words field ≡ type_word_of field
 unfolding type_word_of
 type_by_words field = refl
 
-pub definition_by_words : (field : Text) → word_in definition_words DefinitionWord.Other field ≡ definition_word_of field
+pub definition_by_words : (field : Text) → word_in definition_words field ≡ definition_word_of field
 unfolding definition_word_of
 definition_by_words field = refl
 
-pub origin_by_words : (field : Text) → word_in origin_words OriginWord.Other field ≡ origin_word_of field
+pub origin_by_words : (field : Text) → word_in origin_words field ≡ origin_word_of field
 unfolding origin_word_of
 origin_by_words field = refl
 
-pub node_by_words : (field : Text) → word_in node_words NodeWord.Other field ≡ node_word_of field
+pub node_by_words : (field : Text) → word_in node_words field ≡ node_word_of field
 unfolding node_word_of
 node_by_words field = refl
 
-pub question_by_words : (field : Text) → word_in question_words QuestionWord.Other field ≡ question_word_of field
+pub question_by_words : (field : Text) → word_in question_words field ≡ question_word_of field
 unfolding question_word_of
 question_by_words field = refl

@@ -4,7 +4,7 @@
 // the place of the one word of the table that has it (any place, where none has). So a field is compared with one word only.
 #![tactic(auto)]
 
-ghost use Rattle.std.specs.Prelude.{◌≡◌, ℕ, ◌+◌, ◌≤◌, ◌<◌, List, length, take, drop};
+ghost use Rattle.std.specs.Prelude.{◌≡◌, ℕ, ◌+◌, List, Option, option_map, slice_get, length, drop};
 ghost use Rattle.model.specs.Common.{eq_numbers};
 ghost use Rattle.format.specs.Fields.{field_of};
 ghost use Rattle.format.specs.Words.{Keyword, place_in, word_at, word_in, line_words, scope_words, type_words, definition_words, origin_words, node_words, question_words, line_word_of, scope_word_of, type_word_of, definition_word_of, origin_word_of, node_word_of, question_word_of};
@@ -16,22 +16,37 @@ ghost use Rattle.format.specs.declared.OriginWord.{OriginWord};
 ghost use Rattle.format.specs.declared.NodeWord.{NodeWord};
 ghost use Rattle.format.specs.declared.QuestionWord.{QuestionWord};
 ghost use Rattle.format.specs.Load.{version_of};
+ghost use Rattle.words.specs.Ends.{EndsAt, begins};
 ghost use Rattle.words.specs.Packed.{hash_of, candidate_place};
 ghost use Rattle.words.specs.Meanings.{line_by_words, scope_by_words, type_by_words, definition_by_words, origin_by_words, node_by_words, question_by_words};
 
 use format::{DefinitionWord, LineWord, NodeWord, OriginWord, QuestionWord, ScopeWord, TypeWord};
 
-// The end of the field that begins at `from`: the first tab or LF from there on, or the file's end.
-pub fn field_end(file: &[u8], from: usize) -> usize
-    ensures { result ≡ from + length (field_of (drop from file.now)) }
+// The first place from `from` on whose byte passes the test, or the file's end.
+pub fn end_before<F: Fn(u8) -> bool>(file: &[u8], from: usize, stop: F) -> usize
+    requires { F.IsAlwaysCallable stop }
+    ensures { EndsAt (F.post stop) file.now from result }
 {
     for e in from..file.len() {
-        let b = file[e];
-        if b == 9 || b == 10 {
+        if stop(file[e]) {
             return e;
         }
     }
     from.max(file.len())
+}
+
+// The end of the field that begins at `from`: the first tab or LF from there on, or the file's end.
+pub fn field_end(file: &[u8], from: usize) -> usize
+    ensures { result ≡ from + length (field_of (drop from file.now)) }
+{
+    end_before(file, from, |b| b == b'\t' || b == b'\n')
+}
+
+// Whether the byte at a place is the given one; past the end there is none.
+pub fn is_byte(file: &[u8], at: usize, b: u8) -> bool
+    ensures { result ≡ begins b (drop at file.now) }
+{
+    at < file.len() && file[at] == b
 }
 
 // A number below 32 from the field's first byte, last byte and length. The factors are such that no two words of a table have the same one:
@@ -71,43 +86,43 @@ pub fn find_word(field: &[u8], table: &[u8], map: &[u8; 32]) -> Option<usize>
 
 // ---- the words of each place, in the order of document 01, those of change requests behind them
 
-// The words that may stand at one place of a line, and a last one for a field that is none of them.
+// The words that may stand at one place of a line.
 pub trait PlaceWord: Copy {
-    // The table of the definition, and the word that a field is by it.
+    // The table of the definition, and the word that a field is by it, if it is one.
     ghost words: { List (Keyword Self) };
 
-    ghost other: { Self };
-
-    ghost meaning: { List ℕ → Self };
+    ghost meaning: { List ℕ → Option Self };
 
     // The place of the word that the field is. Each table stands in a method of its own: a byte string is copied where its function begins.
     fn find(field: &[u8]) -> Option<usize>
         ensures { result ≡ place_in words field.now };
 
-    // The word at a place.
-    fn at(k: usize) -> Self
-        ensures { result ≡ word_at words other k };
+    // The word at a place of the table.
+    fn at(k: usize) -> Option<Self>
+        ensures { result ≡ option_map (λ w. w.word) (slice_get words k) };
 
-    fn other() -> Self
-        ensures { result ≡ other };
-
-    ghost by_words: { (field : List ℕ) → word_in words other field ≡ meaning field };
+    ghost by_words: { (field : List ℕ) → word_in words field ≡ meaning field };
 }
 
-// The word that a field is.
-pub fn word<W: PlaceWord>(field: &[u8]) -> W
+// The word of its place that a field is.
+pub fn word<W: PlaceWord>(field: &[u8]) -> Option<W>
     ensures { result ≡ W.meaning field.now }
 {
-    match W::find(field) {
-        Some(k) => W::at(k),
-        None => W::other(),
-    }
+    let k = W::find(field)?;
+    W::at(k)
 }
+
+const LINE_WORDS: [LineWord; 6] = [
+    LineWord::M,
+    LineWord::S,
+    LineWord::T,
+    LineWord::D,
+    LineWord::E,
+    LineWord::Q,
+];
 
 impl PlaceWord for LineWord {
     ghost words = { line_words };
-
-    ghost other = { LineWord.Other };
 
     ghost meaning = { line_word_of };
 
@@ -121,27 +136,20 @@ impl PlaceWord for LineWord {
         )
     }
 
-    fn at(k: usize) -> LineWord {
-        match k {
-            0 => LineWord::M,
-            1 => LineWord::S,
-            2 => LineWord::T,
-            3 => LineWord::D,
-            4 => LineWord::E,
-            5 => LineWord::Q,
-            _ => LineWord::Other,
-        }
-    }
-
-    fn other() -> LineWord {
-        LineWord::Other
+    fn at(k: usize) -> Option<LineWord> {
+        LINE_WORDS.get(k).copied()
     }
 }
 
+const SCOPE_WORDS: [ScopeWord; 4] = [
+    ScopeWord::Module,
+    ScopeWord::Function,
+    ScopeWord::Block,
+    ScopeWord::Loop,
+];
+
 impl PlaceWord for ScopeWord {
     ghost words = { scope_words };
-
-    ghost other = { ScopeWord.Other };
 
     ghost meaning = { scope_word_of };
 
@@ -155,25 +163,23 @@ impl PlaceWord for ScopeWord {
         )
     }
 
-    fn at(k: usize) -> ScopeWord {
-        match k {
-            0 => ScopeWord::Module,
-            1 => ScopeWord::Function,
-            2 => ScopeWord::Block,
-            3 => ScopeWord::Loop,
-            _ => ScopeWord::Other,
-        }
-    }
-
-    fn other() -> ScopeWord {
-        ScopeWord::Other
+    fn at(k: usize) -> Option<ScopeWord> {
+        SCOPE_WORDS.get(k).copied()
     }
 }
 
+const TYPE_WORDS: [TypeWord; 7] = [
+    TypeWord::Felt,
+    TypeWord::Bool,
+    TypeWord::U32,
+    TypeWord::Custom,
+    TypeWord::Ptr,
+    TypeWord::Tuple,
+    TypeWord::Array,
+];
+
 impl PlaceWord for TypeWord {
     ghost words = { type_words };
-
-    ghost other = { TypeWord.Other };
 
     ghost meaning = { type_word_of };
 
@@ -187,28 +193,23 @@ impl PlaceWord for TypeWord {
         )
     }
 
-    fn at(k: usize) -> TypeWord {
-        match k {
-            0 => TypeWord::Felt,
-            1 => TypeWord::Bool,
-            2 => TypeWord::U32,
-            3 => TypeWord::Custom,
-            4 => TypeWord::Ptr,
-            5 => TypeWord::Tuple,
-            6 => TypeWord::Array,
-            _ => TypeWord::Other,
-        }
-    }
-
-    fn other() -> TypeWord {
-        TypeWord::Other
+    fn at(k: usize) -> Option<TypeWord> {
+        TYPE_WORDS.get(k).copied()
     }
 }
 
+const DEFINITION_WORDS: [DefinitionWord; 7] = [
+    DefinitionWord::Fn,
+    DefinitionWord::Struct,
+    DefinitionWord::Const,
+    DefinitionWord::Let,
+    DefinitionWord::Param,
+    DefinitionWord::Use,
+    DefinitionWord::Loop,
+];
+
 impl PlaceWord for DefinitionWord {
     ghost words = { definition_words };
-
-    ghost other = { DefinitionWord.Other };
 
     ghost meaning = { definition_word_of };
 
@@ -222,28 +223,22 @@ impl PlaceWord for DefinitionWord {
         )
     }
 
-    fn at(k: usize) -> DefinitionWord {
-        match k {
-            0 => DefinitionWord::Fn,
-            1 => DefinitionWord::Struct,
-            2 => DefinitionWord::Const,
-            3 => DefinitionWord::Let,
-            4 => DefinitionWord::Param,
-            5 => DefinitionWord::Use,
-            6 => DefinitionWord::Loop,
-            _ => DefinitionWord::Other,
-        }
-    }
-
-    fn other() -> DefinitionWord {
-        DefinitionWord::Other
+    fn at(k: usize) -> Option<DefinitionWord> {
+        DEFINITION_WORDS.get(k).copied()
     }
 }
 
+const ORIGIN_WORDS: [OriginWord; 6] = [
+    OriginWord::Plain,
+    OriginWord::Field,
+    OriginWord::Arg,
+    OriginWord::Assign,
+    OriginWord::Return,
+    OriginWord::Cond,
+];
+
 impl PlaceWord for OriginWord {
     ghost words = { origin_words };
-
-    ghost other = { OriginWord.Other };
 
     ghost meaning = { origin_word_of };
 
@@ -257,27 +252,32 @@ impl PlaceWord for OriginWord {
         )
     }
 
-    fn at(k: usize) -> OriginWord {
-        match k {
-            0 => OriginWord::Plain,
-            1 => OriginWord::Field,
-            2 => OriginWord::Arg,
-            3 => OriginWord::Assign,
-            4 => OriginWord::Return,
-            5 => OriginWord::Cond,
-            _ => OriginWord::Other,
-        }
-    }
-
-    fn other() -> OriginWord {
-        OriginWord::Other
+    fn at(k: usize) -> Option<OriginWord> {
+        ORIGIN_WORDS.get(k).copied()
     }
 }
 
+const NODE_WORDS: [NodeWord; 16] = [
+    NodeWord::Lit,
+    NodeWord::Bool,
+    NodeWord::Ident,
+    NodeWord::Un,
+    NodeWord::Bin,
+    NodeWord::Call,
+    NodeWord::Member,
+    NodeWord::Index,
+    NodeWord::Slit,
+    NodeWord::Tuple,
+    NodeWord::Tidx,
+    NodeWord::Arr,
+    NodeWord::Rep,
+    NodeWord::Cast,
+    NodeWord::New,
+    NodeWord::Paren,
+];
+
 impl PlaceWord for NodeWord {
     ghost words = { node_words };
-
-    ghost other = { NodeWord.Other };
 
     ghost meaning = { node_word_of };
 
@@ -291,37 +291,20 @@ impl PlaceWord for NodeWord {
         )
     }
 
-    fn at(k: usize) -> NodeWord {
-        match k {
-            0 => NodeWord::Lit,
-            1 => NodeWord::Bool,
-            2 => NodeWord::Ident,
-            3 => NodeWord::Un,
-            4 => NodeWord::Bin,
-            5 => NodeWord::Call,
-            6 => NodeWord::Member,
-            7 => NodeWord::Index,
-            8 => NodeWord::Slit,
-            9 => NodeWord::Tuple,
-            10 => NodeWord::Tidx,
-            11 => NodeWord::Arr,
-            12 => NodeWord::Rep,
-            13 => NodeWord::Cast,
-            14 => NodeWord::New,
-            15 => NodeWord::Paren,
-            _ => NodeWord::Other,
-        }
-    }
-
-    fn other() -> NodeWord {
-        NodeWord::Other
+    fn at(k: usize) -> Option<NodeWord> {
+        NODE_WORDS.get(k).copied()
     }
 }
 
+const QUESTION_WORDS: [QuestionWord; 4] = [
+    QuestionWord::Expr,
+    QuestionWord::Def,
+    QuestionWord::OfType,
+    QuestionWord::At,
+];
+
 impl PlaceWord for QuestionWord {
     ghost words = { question_words };
-
-    ghost other = { QuestionWord.Other };
 
     ghost meaning = { question_word_of };
 
@@ -335,18 +318,8 @@ impl PlaceWord for QuestionWord {
         )
     }
 
-    fn at(k: usize) -> QuestionWord {
-        match k {
-            0 => QuestionWord::Expr,
-            1 => QuestionWord::Def,
-            2 => QuestionWord::OfType,
-            3 => QuestionWord::At,
-            _ => QuestionWord::Other,
-        }
-    }
-
-    fn other() -> QuestionWord {
-        QuestionWord::Other
+    fn at(k: usize) -> Option<QuestionWord> {
+        QUESTION_WORDS.get(k).copied()
     }
 }
 

@@ -1,25 +1,27 @@
 -- `fields::word_here` meets its contract. Assumes nothing.
 use Prim.Native.Nat.{◌+◌}
-use mathlib.Core.Path.{sym}
+use mathlib.Core.Path.{sym, ap, ◌∙◌}
 use native.Mathlib.Omega.{arith}
-use Rattle.fields.proofs.Slots.{field_fits, word_out, word_no_tab, word_found}
-use Rattle.fields.proofs.word_here.Goals.{then-file-at-via-then-file-at, then-file-at-via-else-file-at+then-file-at-ne9}
+use Rattle.words.proofs.Bytes.{begins_in}
+use Rattle.std.specs.Prelude.{None, Some}
+use Rattle.fields.specs.Held.{word_is}
+use Rattle.fields.proofs.Slots.{field_fits, word_no_tab, word_found}
 use Rattle.fields.proofs.word_here.Goals as goal
 
-pub returns-then-file-at : goal.returns-then-file-at
-returns-then-file-at c =
-    let a = c.args in
-    elim c.then-file-at.branch [
-      | then-file-at-via-then-file-at h ↦ record { is = sym (word_out a.file.now a.at h.if-file-at.true); inside = Prim.tt }
-      | then-file-at-via-else-file-at+then-file-at-ne9 h ↦ record { is = sym (word_no_tab a.file.now a.at (omega (arith, h.if-file-at.false)) h.if-file-at-ne9.true); inside = Prim.tt }
-    ]
+pub returns-then-not-is_byte : goal.returns-then-not-is_byte
+returns-then-not-is_byte g c = sym (word_no_tab g.W.PlaceWord.meaning c.args.file.now c.args.at (sym c.is_byte.ensures ∙ c.if-not-is_byte.true))
+
+pub slice_bounds-word-end : goal.slice_bounds-word-end
+slice_bounds-word-end g c =
+    let s = c.args.file.now in
+    let inside = begins_in 9 s c.args.at (sym c.is_byte.ensures ∙ c.if-not-is_byte.false) in
+    omega (arith, c.field_end-end.ensures, field_fits s (c.args.at + 1) (omega (arith, inside)))
+
+pub returns-in_err-word : goal.returns-in_err-word
+returns-in_err-word g c =
+    ap (word_is c.args.file.now) c.from_residual.ensures
+    ∙ sym (word_found g.W.PlaceWord.meaning c.args.file.now c.args.at c.field_end-end.result None (sym c.is_byte.ensures ∙ c.if-not-is_byte.false) c.field_end-end.ensures (sym c.in_err-word.was ∙ c.word.ensures))
 
 pub returns : goal.returns
-returns c =
-    let a = c.args in
-    let s = a.file.now in
-    let q = c.field_end.ensures in
-    record {
-      is = sym (word_found s a.at c.field_end.result (omega arith) c.if-file-at-ne9.false q);
-      inside = (omega (arith, q), omega (arith, q, field_fits s (a.at + 1) (omega arith)));
-    }
+returns g c =
+    sym (word_found g.W.PlaceWord.meaning c.args.file.now c.args.at c.field_end-end.result (Some c.in_ok-word.word) (sym c.is_byte.ensures ∙ c.if-not-is_byte.false) c.field_end-end.ensures (sym c.in_ok-word.was ∙ c.word.ensures))

@@ -1,26 +1,19 @@
--- `loader::lines::is_again` meets its contract. Assumes nothing.
-use mathlib.Core.Path.{sym, ap₂, ◌∙◌}
+-- `loader::lines::is_again` meets its contract: one of the modules before has the name. Assumes nothing.
+use native.Mathlib.Omega.{arith}
+use mathlib.Core.Path.{refl, ◌∙◌}
+use Rattle.std.proofs.Common.{rules, tests}
+use Rattle.std.proofs.lemmas.Iterator.{YieldsList-from_range}
+use Rattle.std.proofs.lemmas.Iterator.Search.{any_from_yields_List}
 use Rattle.model.specs.Common.{eq_numbers}
 use Rattle.records.specs.Layout.{module_row}
 use Rattle.loader.specs.Steps.{name_at, again}
-use Rattle.loader.proofs.Advancing.{found_begun, found_here, found_later, found_none}
+use Rattle.loader.proofs.Advancing.{any_found}
 use Rattle.loader.proofs.lines.is_again.Goals as goal
 
-pub loop-m-init : goal.loop-m-init
-unfolding again
-loop-m-init c =
-    found_begun (λ other. eq_numbers other (name_at c.args.file.now c.args.words.now c.args.n)) (name_at c.args.file.now c.args.words.now) c.args.n
-
-pub returns-then-same_name : goal.returns-then-same_name
-unfolding module_row
-returns-then-same_name c =
-    sym (c.loop-m.invariant ∙ found_here (λ other. eq_numbers other (name_at c.args.file.now c.args.words.now c.args.n)) (name_at c.args.file.now c.args.words.now) c.args.n c.loop-m.m c.loop-m-test.true (ap₂ eq_numbers (sym (c.module_name-other.ensures c.args.file.now)) (sym (c.module_name-name.ensures c.args.file.now)) ∙ sym c.same_name.ensures ∙ c.if-same_name.true))
-
-pub loop-m-preserved : goal.loop-m-preserved
-unfolding module_row
-loop-m-preserved c =
-    c.loop-m.invariant ∙ found_later (λ other. eq_numbers other (name_at c.args.file.now c.args.words.now c.args.n)) (name_at c.args.file.now c.args.words.now) c.args.n c.loop-m.m c.loop-m-test.true (ap₂ eq_numbers (sym (c.module_name-other.ensures c.args.file.now)) (sym (c.module_name-name.ensures c.args.file.now)) ∙ sym c.same_name.ensures ∙ c.if-same_name.false)
-
 pub returns : goal.returns
+unfolding again module_row
 returns c =
-    sym (c.loop-m.invariant ∙ found_none (λ other. eq_numbers other (name_at c.args.file.now c.args.words.now c.args.n)) (name_at c.args.file.now c.args.words.now) c.args.n c.loop-m.m c.loop-m-test.false)
+    let s = c.args.file.now in
+    let w = c.args.words.now in
+    any_from_yields_List (λ m. eq_numbers (name_at s w m) (name_at s w c.args.n)) _ _ _ c.any.ensures.ran (YieldsList-from_range 0 c.args.n c.args.n refl (omega arith)) (λ x b q k. search (rules, tests))
+    ∙ any_found (λ name. eq_numbers name (name_at s w c.args.n)) (name_at s w) 0 c.args.n
