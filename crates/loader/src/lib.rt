@@ -31,7 +31,8 @@ pub fn clear(words: &mut [u32])
     words.fill(0);
 }
 
-// The first line whose links don't lead. Rows stand in the order of their lines, and the first of them is line 2.
+// The first line whose links don't lead. Rows stand in the order of their lines, and the first of them is line 2: the place at which a module's lines begin is
+// carried from module to module.
 fn fault_line(words: &[u32]) -> Option<usize>
     requires { module_count words.now ≤ max_modules }
     ensures { (file : List ℕ) → result ≡ link_fault (index_of file words.now) }

@@ -102,7 +102,8 @@ pub fn put(words: &mut [u32], at: usize, row: &[u32])
     words[at..at + row.len()].copy_from_slice(row);
 }
 
-// Each of the six gives how many items the line's list has, and where its fields end.
+// Each of the six gives how many items the line's list has, and where its fields end. They are alike in their order, fields, word, what stands behind it, row, and in
+// nothing else: which fields there are, and which words of the row hold them, is document 01's table.
 
 // M: the name, and where the module's rows of each kind begin.
 pub fn read_module(file: &[u8], at: usize, words: &mut [u32], n: Counts) -> Option<ItemsRead>
@@ -197,13 +198,8 @@ pub fn read_definition(file: &[u8], at: usize, words: &mut [u32], n: Counts) -> 
         head.end,
     )?;
     let kind: WordRead<DefinitionWord> = fields::word_here(file, spans.end)?;
-    let tail = read_tail(
-        file,
-        shapes::definition_shape(kind.word),
-        kind.end,
-        words,
-        n.items,
-    )?;
+    let shape = shapes::definition_shape(kind.word);
+    let tail = read_tail(file, shape, kind.end, words, n.items)?;
     if !path_fits(kind.word, values::low(tail.c), tail.items.count) {
         return None;
     }
@@ -235,13 +231,8 @@ pub fn read_question(file: &[u8], at: usize, words: &mut [u32], n: Counts) -> Op
     ensures { LinePut LineWord.Q file.now words.old n (drop at file.now) words.new result }
 {
     let kind: WordRead<QuestionWord> = fields::word_here(file, at)?;
-    let tail = read_tail(
-        file,
-        shapes::question_shape(kind.word),
-        kind.end,
-        words,
-        n.items,
-    )?;
+    let shape = shapes::question_shape(kind.word);
+    let tail = read_tail(file, shape, kind.end, words, n.items)?;
     put(
         words,
         records::QUESTIONS + 4 * n.questions,

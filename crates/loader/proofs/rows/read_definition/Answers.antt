@@ -27,7 +27,7 @@ returns-in_err-kind c =
 
 pub returns-in_err-tail : goal.returns-in_err-tail
 returns-in_err-tail c =
-    let tp = tail_put_as {words' = c.read_tail.new.words} c.definition_shape.ensures c.read_tail.ensures in
+    let tp = tail_put_as {words' = c.read_tail.new.words} c.definition_shape-shape.ensures c.read_tail.ensures in
     let h = c.in_ok-head.head in
     let s = c.in_ok-spans.spans in
     let k = c.in_ok-kind.kind in
@@ -35,7 +35,7 @@ returns-in_err-tail c =
 
 pub returns-then-not-path_fits : goal.returns-then-not-path_fits
 returns-then-not-path_fits c =
-    let tp = tail_put_as {words' = c.read_tail.new.words} c.definition_shape.ensures c.read_tail.ensures in
+    let tp = tail_put_as {words' = c.read_tail.new.words} c.definition_shape-shape.ensures c.read_tail.ensures in
     let h = c.in_ok-head.head in
     let s = c.in_ok-spans.spans in
     let k = c.in_ok-kind.kind in
@@ -43,7 +43,7 @@ returns-then-not-path_fits c =
 
 pub returns : goal.returns
 returns c =
-    let tp = tail_put_as {words' = c.read_tail.new.words} c.definition_shape.ensures c.read_tail.ensures in
+    let tp = tail_put_as {words' = c.read_tail.new.words} c.definition_shape-shape.ensures c.read_tail.ensures in
     let h = c.in_ok-head.head in
     let s = c.in_ok-spans.spans in
     let k = c.in_ok-kind.kind in
