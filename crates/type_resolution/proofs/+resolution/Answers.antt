@@ -377,14 +377,14 @@ fn_signature-returns-in_err-next t c = entered_stops c.requires c.enter.ensures 
 pub fn_signature-returns-in_default : goal.fn_signature-returns-in_default
 fn_signature-returns-in_default t c = entered_runs c.requires c.enter.ensures c.in_ok-next.was (signature_absent (entered_ready c.requires c.enter.ensures c.in_ok-next.was) _ _ c.definition_in.ensures c.in_default.is)
 
-pub fn_signature-returns-in_default-function_parts : goal.fn_signature-returns-in_default-function_parts
-fn_signature-returns-in_default-function_parts t c = entered_runs c.requires c.enter.ensures c.in_ok-next.was (signature_found _ _ c.definition_in.ensures c.in-Some.is (no_function (entered_ready c.requires c.enter.ensures c.in_ok-next.was) _ _ _ _ c.function_parts.ensures c.in_default-function_parts.is))
+pub fn_signature-returns-in_default-kind : goal.fn_signature-returns-in_default-kind
+fn_signature-returns-in_default-kind t c = entered_runs c.requires c.enter.ensures c.in_ok-next.was (signature_found _ _ c.definition_in.ensures c.in-Some.is (no_function (entered_ready c.requires c.enter.ensures c.in_ok-next.was) _ _ _ _ c.in_default-kind.not-Function))
 
 pub fn_signature-sig-requires : goal.fn_signature-sig-requires
-fn_signature-sig-requires t c = (enter_falls 2 (omega arith) c.enter.ensures c.in_ok-next.was (sym c.decreases), ((entered_ready c.requires c.enter.ensures c.in_ok-next.was), short_params c.requires c.definition_in.ensures c.in-Some.is c.function_parts.ensures c.in-Some-function_parts.is))
+fn_signature-sig-requires t c = (enter_falls 2 (omega arith) c.enter.ensures c.in_ok-next.was (sym c.decreases), ((entered_ready c.requires c.enter.ensures c.in_ok-next.was), short_params c.requires c.definition_in.ensures c.in-Some.is c.in-Function.is))
 
 pub fn_signature-returns : goal.fn_signature-returns
-fn_signature-returns t c = entered_runs c.requires c.enter.ensures c.in_ok-next.was (signature_found _ _ c.definition_in.ensures c.in-Some.is (function_parted _ _ _ _ _ _ c.function_parts.ensures c.in-Some-function_parts.is c.sig.ensures))
+fn_signature-returns t c = entered_runs c.requires c.enter.ensures c.in_ok-next.was (signature_found _ _ c.definition_in.ensures c.in-Some.is (function_parted _ _ _ _ _ _ c.in-Function.is c.sig.ensures))
 
 pub index-returns-in_default : goal.index-returns-in_default
 index-returns-in_default t c = same_runs (index_reads _ _ _) (none_runs _ _ _ (ap expression_link_of c.in_default.is) (answers c.requires refl))
@@ -748,14 +748,14 @@ struct_data-returns-in_err-next t c = entered_stops c.requires c.enter.ensures c
 pub struct_data-returns-in_default : goal.struct_data-returns-in_default
 struct_data-returns-in_default t c = entered_runs c.requires c.enter.ensures c.in_ok-next.was (struct_absent (entered_ready c.requires c.enter.ensures c.in_ok-next.was) _ _ c.definition_in.ensures c.in_default.is)
 
-pub struct_data-returns-in_default-struct_fields : goal.struct_data-returns-in_default-struct_fields
-struct_data-returns-in_default-struct_fields t c = entered_runs c.requires c.enter.ensures c.in_ok-next.was (struct_found _ _ c.definition_in.ensures c.in-Some.is (no_struct (entered_ready c.requires c.enter.ensures c.in_ok-next.was) _ _ _ _ c.struct_fields.ensures c.in_default-struct_fields.is))
+pub struct_data-returns-in_default-kind : goal.struct_data-returns-in_default-kind
+struct_data-returns-in_default-kind t c = entered_runs c.requires c.enter.ensures c.in_ok-next.was (struct_found _ _ c.definition_in.ensures c.in-Some.is (no_struct (entered_ready c.requires c.enter.ensures c.in_ok-next.was) _ _ _ _ c.in_default-kind.not-Struct))
 
 pub struct_data-fields-requires : goal.struct_data-fields-requires
-struct_data-fields-requires t c = (enter_falls 2 (omega arith) c.enter.ensures c.in_ok-next.was (sym c.decreases), ((entered_ready c.requires c.enter.ensures c.in_ok-next.was), short_fields c.requires c.definition_in.ensures c.in-Some.is c.struct_fields.ensures c.in-Some-struct_fields.is))
+struct_data-fields-requires t c = (enter_falls 2 (omega arith) c.enter.ensures c.in_ok-next.was (sym c.decreases), ((entered_ready c.requires c.enter.ensures c.in_ok-next.was), short_fields c.requires c.definition_in.ensures c.in-Some.is c.in-Struct.is))
 
 pub struct_data-returns : goal.struct_data-returns
-struct_data-returns t c = entered_runs c.requires c.enter.ensures c.in_ok-next.was (struct_found _ _ c.definition_in.ensures c.in-Some.is (struct_fielded _ _ _ _ _ c.struct_fields.ensures c.in-Some-struct_fields.is c.fields.ensures))
+struct_data-returns t c = entered_runs c.requires c.enter.ensures c.in_ok-next.was (struct_found _ _ c.definition_in.ensures c.in-Some.is (struct_fielded _ _ _ _ _ c.in-Struct.is c.fields.ensures))
 
 pub tidx-returns-in_err-x : goal.tidx-returns-in_err-x
 tidx-returns-in_err-x t c = same_runs (tuple_index_reads _ _ _) (none_runs _ _ _ (ap expression_link_of (was_missing c.ok_or.ensures.ok_part c.in_err-x.was)) (missing_runs c.requires _ Refusal.MissingChild c.ok_or.ensures.value c.in_err-x.was c.from_residual.ensures))
