@@ -36,17 +36,6 @@ sum_is f first count =
     ∙ sym (is_sum_by (total f) f refl (λ _ _. refl) (range_with_len first count))
     ∙ ap (total f) (numbers_are first count)
 
--- ------------------------------------------------------------------ the numbers that were read
-
-pub counts_are :
-    (t words : List ℕ) (m s y d e q i : ℕ) → m ≡ word words 0 → s ≡ row_total words scope_rows
-    → y ≡ row_total words type_expr_rows → d ≡ row_total words definition_rows → e ≡ row_total words expression_rows
-    → q ≡ word words 1 → i ≡ word words 2 → counted t (m ∷ s ∷ y ∷ d ∷ e ∷ q ∷ i ∷ []) ≡ counted t (counts words)
-counts_are t words m s y d e q i hm hs hy hd he hq hi = ap (counted t) rows
-  where
-    rows : (m ∷ s ∷ y ∷ d ∷ e ∷ q ∷ i ∷ []) ≡ counts words
-    rows = cc
-
 -- ------------------------------------------------------------------ the index that the words hold
 
 -- a sum over rows, and over what they hold

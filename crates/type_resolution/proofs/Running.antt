@@ -95,9 +95,6 @@ module _ {file words : List ℕ} {depth : ℕ} {T : List ℕ} {O : List (List �
   pub answers : {n m : ℕ} → n ≡ m → Runs typed file words (done m) depth T O T O (Ok n)
   answers e = ends ok (is_ok _ (ap Ok e))
 
-  pub refuses : (refusal : Refusal) → Runs typed file words (refuse (refusal_number refusal)) depth T O T O (Err refusal)
-  refuses refusal = stops ok (is_err _ refl)
-
   -- a missing link, refused as `ok_or` was told
   pub missing_runs : {A : Type 0} (o : Option A) (given : Refusal) {r : Result A Refusal} {refusal : Refusal} {s : Result ℕ Refusal} → r ≡ ok_or o given → r ≡ Err refusal
       → IsErr s × IsErrAnd s (λ e. e ≡ refusal) → Runs typed file words (refuse (refusal_number given)) depth T O T O s
