@@ -1,15 +1,15 @@
 -- One question: it starts ready, its outcome is the definition's, and the type words and open demands behind it. Assumes nothing.
 use Prim.Native.Nat.{ℕ, zero, suc, ◌≤◌, ◌<◌, min}
 use mathlib.Core.Path.{◌≡◌, refl, sym, ap, ap₂, subst, ◌∙◌}
+use mathlib.Core.Bool.{true, false≢true}
 use mathlib.Core.List.{List, [], ◌∷◌, ◌++◌, append-nil}
-use Rattle.std.specs.Prelude.{Option, None, Some, Result, Ok, Err}
+use Rattle.std.specs.Prelude.{Option, None, Some, Result, Ok, Err, is_err}
 use native.Mathlib.Nat.{zero-add}
 use native.Mathlib.Omega.{arith}
 use Rattle.std.specs.Prelude.{slice_get}
 use lib.ListN.{length, replicate, drop_of_length-le}
-use Rattle.refusals.specs.Numbers.{refusal_number, file_refusal_number}
+use Rattle.refusals.specs.Numbers.{refusal_number}
 use Rattle.refusals.specs.declared.Refusal.{Refusal}
-use Rattle.refusals.specs.declared.FileRefused.{FileRefused}
 use Rattle.model.specs.Common.{Text}
 use Rattle.model.specs.Records.{Question, Index}
 use Rattle.model.specs.Limits.{max_open_demands}
@@ -41,6 +41,11 @@ use Rattle.answers.proofs.AskedLines.{line_there, past_line}
 pub types_zero : (w : List ℕ) → length w ≡ 8192 → cleared_types w ≡ zero_types
 unfolding cleared_types
 types_zero w long = ap₂ (λ n l. replicate n 0 ++ l) (ap (min 8192) long) (drop_of_length-le w {i = 8192} (omega arith)) ∙ append-nil (replicate 8192 0)
+
+-- a line that isn't written leaves zeros
+pub kept_at_err : (types : List ℕ) (types' : List ℕ) (r : Result ℕ LineError) → is_err r ≡ true → types' ≡ zero_types → TypesKept types types' r
+kept_at_err types types' (Ok n) e z = absurd (false≢true e)
+kept_at_err types types' (Err error) e z = z
 
 zeros : (n : ℕ) (places : List (List ℕ)) → length places ≡ n → cleared n places ≡ replicate n zero_place
 unfolding cleared

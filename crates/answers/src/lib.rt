@@ -60,9 +60,13 @@ const NO_QUESTION: FileRefused = FileRefused {
 };
 
 // The lengths that the answer buffer and, in their crates, the other buffers must have.
-const ANSWER_BYTES: usize = 4160;
+pub const ANSWER_BYTES: usize = 4160;
 
 // ------------------------------------------------------------------ a line
+
+// The type words, the places and the answer bytes are parameters of their own. In a struct of three `&mut` they would be no plainer: each call takes
+// others of them, the type words are read through a `&` where a line is written, and of the answer bytes a line gets those behind the last one, so that each call would make
+// a struct of its own; and behind a `&mut` of such a struct the read leaves nothing known of the words but their length (see type_resolution).
 
 // Writes the line of a type. Without one the type words are all zero.
 fn answer_typed(
@@ -77,13 +81,11 @@ fn answer_typed(
     requires types_len { length types.old ≡ 8192 }
     ensures { SaidAnswered (asked_lead (asked_of asked)) (text_verdict (type_text (table_of file.now types.old) t)) types.old out.old types.new out.new result }
 {
-    match line_text::write_typed(file, types, t, asked, out) {
-        Ok(n) => Ok(n),
-        Err(error) => {
-            type_table::clear(types);
-            Err(error)
-        }
+    let written = line_text::write_typed(file, types, t, asked, out);
+    if written.is_err() {
+        type_table::clear(types);
     }
+    written
 }
 
 // Writes the line `none`. Without room for it the type words are all zero.
@@ -91,13 +93,11 @@ fn answer_none(types: &mut [u32], asked: Asked, out: &mut [u8]) -> Result<usize,
     requires { length types.old ≡ 8192 }
     ensures { SaidAnswered (asked_lead (asked_of asked)) (Verdict.worded none_word) types.old out.old types.new out.new result }
 {
-    match line_text::write_none(asked, out) {
-        Some(n) => Ok(n),
-        None => {
-            type_table::clear(types);
-            Err(LineError::NoRoom)
-        }
-    }
+    let Some(n) = line_text::write_none(asked, out) else {
+        type_table::clear(types);
+        return Err(LineError::NoRoom);
+    };
+    Ok(n)
 }
 
 // Resolves what is asked of the loaded file and writes its line if it is no refusal. No demand is open behind it.
@@ -132,10 +132,7 @@ fn answer_asked(
 fn answer_refused(asked: Asked, refusal: Refusal, out: &mut [u8]) -> Step
     ensures { StepIs (line_with (asked_lead (asked_of asked)) (Verdict.refused (refusal_number refusal))) out.old out.new result }
 {
-    match line_text::write_refused(asked, refusal, out) {
-        Some(n) => Step::Line(n),
-        None => Step::NoRoom,
-    }
+    line_text::write_refused(asked, refusal, out).map_or(Step::NoRoom, Step::Line)
 }
 
 // The line of a number, of a question that the file has; a refused one's line is written too.
@@ -202,6 +199,9 @@ fn answer_lines(
 }
 
 // ------------------------------------------------------------------ the public entries
+
+// `answer` and `answer_from`, and below them `answer_exact` and `lines_exact`, have the list of the lent buffers in common and nothing else: each promises
+// something else of them, and does something else behind `load`.
 
 // Whether the buffers are as long as they have to be.
 fn are_long(records: usize, types: usize, places: usize, bytes: usize) -> bool

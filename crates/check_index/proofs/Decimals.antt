@@ -1,13 +1,12 @@
 -- The digits that `io::decimal` puts are the definition's. Assumes nothing.
-use Prim.Native.Nat.{ℕ, zero, suc, ◌+◌, ◌-◌, ◌/◌, ◌%◌, ◌^◌, ◌≤◌, ◌<◌}
-use mathlib.Core.Path.{◌≡◌, refl, sym, ap, ◌∙◌, subst}
+use Prim.Native.Nat.{ℕ, zero, suc, ◌+◌, ◌/◌, ◌%◌, ◌^◌, ◌≤◌, ◌<◌}
+use mathlib.Core.Path.{◌≡◌, sym, ap, ◌∙◌}
 use mathlib.Core.Bool.{Bool, true, false, cond}
 use mathlib.Core.List.{[], ◌∷◌, ◌++◌}
 use native.Mathlib.Omega.{arith}
 use native.Mathlib.Numerals.{unary_clauses}
 use native.Mathlib.Nat.{pow-suc, not-suc-le-zero}
-use borrow.Author.Tests.{lt-ltb, le-ltb, leb-true, leb-false}
-use lib.Dec.{leb}
+use borrow.Author.Tests.{lt-ltb, le-ltb}
 use Rattle.model.specs.Common.{Text}
 use Rattle.resolution.specs.Answer.{decimal_digits, decimal}
 use Rattle.io.specs.Digits.{hex_digit_ascii, last_digits, IsDigitCount}
@@ -72,23 +71,3 @@ pub decimal_is : (n k : ℕ) (t : Text) → IsDigitCount 10 1 n k → t ≡ last
 unfolding decimal
 decimal_is n zero t f e = absurd (not-suc-le-zero f.0)
 decimal_is n (suc k) t f e = e ∙ digits_are k (suc n) n (omega arith) f.1 (simp unary_clauses at f.2)
-
--- a number below 2^64 has at most 20 digits
-powers_rise : (a b : ℕ) → 10 ^ a ≤ 10 ^ (a + b)
-powers_rise a zero = simp unary_clauses (omega arith)
-powers_rise a (suc b) =
-    subst (λ (k : ℕ). 10 ^ a ≤ 10 ^ k) (more a b) (omega (arith, powers_rise a b, pow-suc 10 (a + b)))
-  where
-    more : (a b : ℕ) → suc (a + b) ≡ a + suc b
-    more a b = omega arith
-
-pub at_most_twenty : (n k : ℕ) → n < 18446744073709551616 → IsDigitCount 10 1 n k → k ≤ 20
-at_most_twenty n k h f = by (leb k 20) refl
-  where
-    split : 20 < k → 20 + (k - 21) ≡ k - 1
-    split l = omega arith
-
-    by : (b : Bool) → leb k 20 ≡ b → k ≤ 20
-    by true e = leb-true k 20 e
-    by false e =
-        omega (arith, subst (λ (j : ℕ). 10 ^ 20 ≤ 10 ^ j) (split (leb-false k 20 e)) (powers_rise 20 (k - 21)), f.2 (omega (arith, leb-false k 20 e)))

@@ -1,20 +1,16 @@
 -- Texts and numbers put behind the first bytes of a buffer. Assumes nothing.
-use Prim.Native.Nat.{ℕ, ◌+◌, ◌≤◌, ◌<◌}
+use Prim.Native.Nat.{ℕ, ◌+◌, ◌<◌}
 use Rattle.check_index.specs.Line.{tabbed, counted}
 use mathlib.Core.Path.{◌≡◌, refl, sym, ap, ◌∙◌}
 use mathlib.Core.List.{List, [], ◌∷◌, ◌++◌, append_assoc}
 use native.Mathlib.Numerals.{add-one}
 use lib.ListN.{length, take, get_or}
-use lib.Seq.{length-take-le, take-suc}
+use lib.Seq.{take-suc}
 
 -- a text and then another, behind what is there
 pub put_both :
     (t u v : List ℕ) (r s : List ℕ) → s ≡ t ++ u → r ≡ s ++ v → r ≡ t ++ (u ++ v)
 put_both t u v r s e f = f ∙ ap (λ (w : List ℕ). w ++ v) e ∙ append_assoc t u v
-
--- the length of what a buffer begins with
-pub counts_of : (out : List ℕ) (r : ℕ) → r ≤ length out → (r ≤ length out) × (r ≡ length (take r out))
-counts_of out r h = (h, sym (length-take-le r out h))
 
 -- numbers behind tabs, and then others
 counted_append : (t ns ms : List ℕ) → counted t (ns ++ ms) ≡ counted (counted t ns) ms

@@ -1,10 +1,13 @@
 -- How many records the words hold, and how many the index that they hold has. Assumes nothing.
-use Prim.Native.Nat.{ℕ, zero, suc, ◌+◌, ◌-◌, ◌≤◌, ◌<◌}
+use Prim.Native.Nat.{ℕ, zero, suc, ◌+◌}
 use mathlib.Core.Path.{◌≡◌, refl, sym, ap, ap₂, subst, ◌∙◌}
-use mathlib.Core.List.{List, [], ◌∷◌, ◌++◌}
+use mathlib.Core.List.{List, [], ◌∷◌, ◌++◌, map}
+use Rattle.std.specs.List.{range_with_len, sum}
+use Rattle.std.proofs.lemmas.List.Sums.{sum-map}
+use Rattle.std.proofs.lemmas.List.Recursion.{is_sum_by}
+use native.Mathlib.Numerals.{add-one}
 use Rattle.std.specs.Prelude.{Ok, Err}
 use native.Mathlib.Omega.{arith}
-use native.Mathlib.Nat.{zero-add}
 use lib.ListN.{length, take}
 use lib.Seq.{take_all}
 use Rattle.model.specs.Common.{bytes, total}
@@ -14,49 +17,24 @@ use Rattle.format.specs.Load.{accepted, load}
 use Rattle.records.specs.Layout.{word, each, rows_of, count_of, begin_of, module_row, index_of, module_count, question_count}
 use Rattle.records.specs.Layout.{scope_row, type_expr_row, definition_row, expression_row, question_row}
 use Rattle.records.specs.Layout.{scope_rows, type_expr_rows, definition_rows, expression_rows}
-use Rattle.records.proofs.Lists.{each_length, each_unroll, each_ended, each_begun}
+use Rattle.records.proofs.Lists.{each_length}
 use Rattle.check_index.specs.Line.{counted, counts, row_total, accepted_line, index_counts, line_of, loading_line}
 use Rattle.loader.specs.Load.{Loaded, loaded_is, ItemsCounted, Filled}
 
--- ------------------------------------------------------------------ the sum, from module to module
+-- ------------------------------------------------------------------ the sum over the modules
 
--- what the modules from m on have
-abbrev pub left : List ℕ → ℕ → ℕ → ℕ
-left words kind m = total (λ m. count_of words m kind) (each (λ m. m) (0 + m) (module_count words - m))
+numbers_are : (first count : ℕ) → range_with_len first count ≡ each (λ m. m) first count
+unfolding each
+numbers_are first zero = refl
+numbers_are first (suc count) = ap (λ ms. first ∷ ms) (ap (λ m. range_with_len m count) (add-one first) ∙ numbers_are (suc first) count)
 
-pub left_begun : (words : List ℕ) (kind : ℕ) → row_total words kind ≡ 0 + left words kind 0
-left_begun words kind = omega (arith, ap (total (λ m. count_of words m kind)) (each_begun (λ m. m) 0 (module_count words)))
-
-pub left_more :
-    (words : List ℕ) (kind sum m : ℕ) → m < module_count words → row_total words kind ≡ sum + left words kind m
-    → row_total words kind ≡ sum + count_of words m kind + left words kind (m + 1)
+-- the sum of f over numbers that follow each other
+pub sum_is : (f : ℕ → ℕ) (first count : ℕ) → sum (map f (range_with_len first count)) ≡ total f (each (λ m. m) first count)
 unfolding total
-left_more words kind sum m h e = omega (arith, e, more)
-  where
-    more : left words kind m ≡ count_of words m kind + left words kind (m + 1)
-    more =
-        ap (total (λ m. count_of words m kind)) (each_unroll (λ m. m) 0 (module_count words) m h)
-        ∙ ap (λ (k : ℕ). count_of words k kind + left words kind (m + 1)) (zero-add m)
-
-pub left_ended :
-    (words : List ℕ) (kind sum m : ℕ) → module_count words ≤ m → row_total words kind ≡ sum + left words kind m
-    → sum ≡ row_total words kind
-unfolding total
-left_ended words kind sum m h e = omega (arith, e, none_left)
-  where
-    none_left : left words kind m ≡ 0
-    none_left = ap (total (λ m. count_of words m kind)) (each_ended (λ m. m) 0 (module_count words) m h)
-
--- ------------------------------------------------------------------ the numbers that were read
-
-pub counts_are :
-    (t words : List ℕ) (m s y d e q i : ℕ) → m ≡ word words 0 → s ≡ row_total words scope_rows
-    → y ≡ row_total words type_expr_rows → d ≡ row_total words definition_rows → e ≡ row_total words expression_rows
-    → q ≡ word words 1 → i ≡ word words 2 → counted t (m ∷ s ∷ y ∷ d ∷ e ∷ q ∷ i ∷ []) ≡ counted t (counts words)
-counts_are t words m s y d e q i hm hs hy hd he hq hi = ap (counted t) rows
-  where
-    rows : (m ∷ s ∷ y ∷ d ∷ e ∷ q ∷ i ∷ []) ≡ counts words
-    rows = cc
+sum_is f first count =
+    sum-map f (range_with_len first count)
+    ∙ sym (is_sum_by (total f) f refl (λ _ _. refl) (range_with_len first count))
+    ∙ ap (total f) (numbers_are first count)
 
 -- ------------------------------------------------------------------ the index that the words hold
 

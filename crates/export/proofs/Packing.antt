@@ -16,7 +16,7 @@ use Rattle.loader.specs.Load.{Loaded, loaded_is, Short, Filled}
 use Rattle.export.specs.Numbers.{packed_number, kind_of, high_of, low_of, RefusalFits, loaded_numbers, lines_by, lines_read}
 use Rattle.answers.specs.Numbers.{LinesNumbers}
 
--- whatever is made of a kind and two numbers
+-- whatever is made of a kind and two numbers. (No answer cites this and the next: they are laws of what is packed, for a reader in another language)
 pub read_back : {A : Type 0} (by : ℕ → ℕ → ℕ → A) (kind high low : ℕ) → kind < 65536 → high < 65536 → low < 4294967296
     → (r : ℕ) → r ≡ packed_number kind high low → by (kind_of r) (high_of r) (low_of r) ≡ by kind high low
 read_back by kind high low kind_small high_small low_small r is =

@@ -2,7 +2,7 @@
 // there, a result one number of 64 bits: its kind, a number of 16 bits and one of 32 bits.
 #![tactic(auto)]
 
-ghost use Rattle.std.specs.Prelude.{◌≡◌};
+ghost use Rattle.std.specs.Prelude.{◌≡◌, Ok};
 ghost use Rattle.refusals.specs.Numbers.{file_refusal_number};
 ghost use Rattle.answers.specs.Numbers.{line_numbers, lines_numbers};
 ghost use Rattle.answers.specs.Promises.{buffers};
@@ -15,10 +15,18 @@ use refusals::FileRefused;
 
 // ------------------------------------------------------------------ results as numbers
 
+// Where the parts of a number begin: the kind at bit 48, the number of 16 bits at bit 32.
+const KIND: u64 = 1 << 48;
+
+const HIGH: u64 = 1 << 32;
+
+// A part of 16 bits.
+const SMALL: u64 = 1 << 16;
+
 fn packed(kind: u64, high: u64, low: u64) -> u64
     ensures { result ≡ packed_number kind high low }
 {
-    (kind % 65536) * 281474976710656 + (high % 65536) * 4294967296 + low % 4294967296
+    (kind % SMALL) * KIND + (high % SMALL) * HIGH + low % HIGH
 }
 
 // A file's refusal: kind 3, its number and its line.
@@ -31,41 +39,42 @@ fn file_refused(refused: FileRefused) -> u64
 fn loaded_result(loaded: Result<(), FileRefused>) -> u64
     ensures { LoadedPacked (loaded_numbers loaded) result }
 {
-    match loaded {
-        Ok(_) => packed(0, 0, 0),
-        Err(refused) => file_refused(refused),
+    loaded.map_or_else(file_refused, |()| packed(0, 0, 0))
+}
+
+fn line_number(answer: LineAnswer) -> u64
+    ensures { LinePacked (line_numbers (Ok answer)) result }
+{
+    match answer {
+        LineAnswer::Line(bytes) => packed(0, 0, bytes as u64),
+        LineAnswer::Refused(refusal) => packed(1, refusal.number() as u64, 0),
+        LineAnswer::PastLast => packed(2, 0, 0),
     }
 }
 
 fn line_result(answer: Result<LineAnswer, FileRefused>) -> u64
     ensures { LinePacked (line_numbers answer) result }
 {
+    answer.map_or_else(file_refused, line_number)
+}
+
+// The line to go on with and the bytes share the last 32 bits.
+fn lines_number(answer: LinesAnswer) -> u64
+    ensures { LinesPacked (lines_numbers (Ok answer)) result }
+{
     match answer {
-        Ok(answer) => match answer {
-            LineAnswer::Line(bytes) => packed(0, 0, bytes as u64),
-            LineAnswer::Refused(refusal) => packed(1, refusal.number() as u64, 0),
-            LineAnswer::PastLast => packed(2, 0, 0),
-        },
-        Err(refused) => file_refused(refused),
+        LinesAnswer::More(next, line, bytes) => {
+            let low = (line as u64) * SMALL + (bytes as u64) % SMALL;
+            packed(1, next as u64, low)
+        }
+        LinesAnswer::End(bytes) => packed(0, 0, bytes as u64),
     }
 }
 
 fn lines_result(answer: Result<LinesAnswer, FileRefused>) -> u64
     ensures { LinesPacked (lines_numbers answer) result }
 {
-    match answer {
-        Ok(answer) => match answer {
-            LinesAnswer::More(next, line, bytes) => {
-                packed(
-                    1,
-                    next as u64,
-                    (line as u64) * 65536 + ((bytes % 65536) as u64),
-                )
-            }
-            LinesAnswer::End(bytes) => packed(0, 0, bytes as u64),
-        },
-        Err(refused) => file_refused(refused),
-    }
+    answer.map_or_else(file_refused, lines_number)
 }
 
 // ------------------------------------------------------------------ the exported functions

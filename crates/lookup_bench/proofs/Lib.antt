@@ -1,2 +1,2 @@
--- What the proofs of several lookups use.
+-- How a lookup in the module of a number goes by where the link to that module leads. The check proves each lookup without it.
 pub mod ByModule

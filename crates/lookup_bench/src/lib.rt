@@ -17,20 +17,14 @@ use records::{ExpressionId, FileScopeId, Index, Name, RecordNumber};
 pub extern "C" fn bench_load(file: &[u8], records: &mut [u32]) -> u32
     ensures { LoadNumber file.now records.old records.new result }
 {
-    match loader::load(file, records) {
-        Ok(()) => 0,
-        Err(refused) => refused.refusal.number(),
-    }
+    loader::load(file, records).map_or_else(|refused| refused.refusal.number(), |()| 0)
 }
 
 // A link as a number.
 fn link_number<R: RecordNumber>(link: Option<R>) -> u64
     ensures { result ≡ link_number (option_map R.number link) }
 {
-    match link {
-        None => 0,
-        Some(n) => (n.get() as u64) + 1,
-    }
+    link.map_or(0, |n| (n.get() as u64) + 1)
 }
 
 // The module of a number, if the index has one: the words behind those of its modules may be an earlier file's.

@@ -1,7 +1,7 @@
 // Reads an index file from standard input and prints the answer lines of its questions, or the line of its refusal.
 #![tactic(auto)]
 
-ghost use Rattle.std.specs.Prelude.{◌≡◌, ◌≤◌, IfOk, length};
+ghost use Rattle.std.specs.Prelude.{◌≡◌, ◌≤◌, length};
 ghost use Rattle.resolution.specs.Resolve.{refusal_line};
 ghost use Rattle.answers.specs.Steps.{Long};
 ghost use Rattle.resolve.specs.Parts.{RefusedPut, PartIs};
@@ -10,38 +10,6 @@ use answers::LinesAnswer;
 use demands::Place;
 use std::io;
 use std::io::{Print, Read};
-
-// A file of one byte more than the limit fits, so that it is seen to be too long.
-fn input() -> [u8; 65537]
-    ensures { 65537 ≡ length result }
-{
-    [0; 65537]
-}
-
-fn record_words() -> [u32; 16384]
-    ensures { 16384 ≡ length result }
-{
-    [0; 16384]
-}
-
-fn type_words() -> [u32; 8192]
-    ensures { 8192 ≡ length result }
-{
-    [0; 8192]
-}
-
-fn places() -> [Place; 256]
-    ensures { 256 ≡ length result }
-{
-    let place: Place = [0; 5];
-    [place; 256]
-}
-
-fn answer_bytes() -> [u8; 4160]
-    ensures { 4160 ≡ length result }
-{
-    [0; 4160]
-}
 
 // Puts the line of a refused file at the start of the bytes, and says how long it is. It takes the two numbers that it writes: of a struct's field or a call's
 // result the proof would have to say again that it has ten digits at most.
@@ -69,17 +37,16 @@ fn next_part(
     requires { Long (length records.old) (length types.old) (length demands.old) (length out.old) }
     ensures { PartIs file.now from line out.new result }
 {
+    // A match, and no `unwrap_or_else`: tried, and of a closure that may write into `out` the proof knows only that `out` is as long as it was.
     match answers::answer_from(file, from, line, records, types, demands, out) {
         Ok(lines) => lines,
         Err(refused) => LinesAnswer::End(put_refused(refused.refusal.number(), refused.line, out)),
     }
 }
 
-// Reads standard input until the space is full or the input ends, and says how many bytes stand at its start. How many reads that takes is known only when
-// the last is done, so no `for` goes over them. The space is fixed memory: std's reading to the end would take a Vec. (`check_index` has the same three functions: a library for two programs would be as long.)
-fn read_input(rt: HostRuntime, space: &mut [u8]) -> io::Result<usize>
-    ensures { IfOk result (λ n. n ≤ length space.new) }
-{
+// What stands on standard input, as far as the space takes it. How many reads that takes is known only when the last is done, so no `for` goes over them.
+// The space is fixed memory: std's reading to the end would take a Vec. (`check_index` has the same function: a library for two programs would be as long.)
+fn read_input(rt: HostRuntime, space: &mut [u8]) -> io::Result<&[u8]> {
     let mut input = rt.stdin();
     let mut n = 0;
     while n < space.len() {
@@ -89,24 +56,25 @@ fn read_input(rt: HostRuntime, space: &mut [u8]) -> io::Result<usize>
         }
         n += more;
     }
-    Ok(n)
+    Ok(&space[..n])
 }
 
 // Prints the parts one behind the other. Each is the definition's (`PartIs`), and all together are `resolve` of the file (`CallsResolve`, `CallsEnd`).
 // That they are written in this order is to be read here: what is written is no value of the logic, and `write_all` promises nothing of it.
 // A read or a write that fails ends the program with its error. Which part is the last is known only when it is there, so no `for` goes over them.
+// A file of one byte more than the limit fits in the space, so that it is seen to be too long.
 fn main(rt: HostRuntime) -> io::Result<()> {
-    let mut space = input();
-    let n = read_input(rt, &mut space)?;
-    let mut records = record_words();
-    let mut types = type_words();
-    let mut demands = places();
-    let mut out = answer_bytes();
+    let mut space = [0; 65537];
+    let file = read_input(rt, &mut space)?;
+    let mut records = [0; loader::RECORD_WORDS];
+    let mut types = [0; type_table::WORDS];
+    let mut demands = [[0; 5]; demands::PLACES];
+    let mut out = [0; answers::ANSWER_BYTES];
     let mut from: u32 = 0;
     let mut line: u32 = 0;
     loop {
         match next_part(
-            &space[..n],
+            file,
             from,
             line,
             &mut records,

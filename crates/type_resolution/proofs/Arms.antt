@@ -31,11 +31,11 @@ use Rattle.type_table.proofs.Growth.{grows_refl}
 use Rattle.type_table.proofs.Rows.{length_table}
 use Rattle.resolution.specs.TableOk.{OptionBelow}
 use Rattle.resolution.proofs.SafeReads.{hint_below, array_below, row_below}
-use Rattle.model.proofs.Tests.{eqb_self, eqb_sound, some-injective}
+use Rattle.model.proofs.Tests.{eqb_self, eqb_sound}
 use lib.Dec.{eqb}
 use Rattle.type_resolution.specs.State.{Ready, Runs, typed, linked}
 use Rattle.type_resolution.specs.Shapes.{struct_named, struct_type, signature_type, declared_type, repeat_in}
-use Rattle.type_resolution.specs.Leaves.{Passed, Returned, NumericOr, StructFields, FunctionParts, HintBelow}
+use Rattle.type_resolution.specs.Leaves.{Passed, Returned, NumericOr, HintBelow}
 use Rattle.type_resolution.proofs.Running.{is_ok, ends, answers, knows, knows_nothing, then_on, some_runs, none_runs, look_runs, same_runs}
 use Rattle.type_resolution.proofs.Shaped.{param_reads, return_reads}
 
@@ -82,58 +82,41 @@ given_context {file} {words} {depth} {T} {O} ok m the_module info context {t} e 
 -- ------------------------------------------------------------------ kinds of definitions
 
 module _ {file words : List ℕ} {depth : ℕ} {T : List ℕ} {O : List (List ℕ)} {T' : List ℕ} {O' : List (List ℕ)} {r : Result (Option ℕ) Refusal} (m d s : ℕ) where
-  pub struct_fielded : (kind : DefinitionKind) {f : Option Items} (list : Items) → StructFields kind f → f ≡ Some list
+  pub struct_fielded : (kind : DefinitionKind) (list : Items) → kind ≡ DefinitionKind.Struct list
       → Runs linked file words (struct_type m d s (names_with_types_of file words list)) depth T O T' O' r
       → Runs linked file words (struct_kind_data m d s (definition_kind_of file words kind)) depth T O T' O' r
   unfolding struct_type struct_kind_data
-  struct_fielded (DefinitionKind.Struct l) list is h a =
-      let same = is.same in let z : l ≡ list = cc in
-      subst⁻¹ (λ k. Runs linked file words (struct_kind_data m d s (definition_kind_of file words (DefinitionKind.Struct k))) depth T O T' O' r) z a
-  struct_fielded (DefinitionKind.Function t l) list is h a = let same = is.same in let z : ◌≡◌ {A = ℕ} 0 1 = cc in absurd (omega arith)
-  struct_fielded (DefinitionKind.Const t e) list is h a = let same = is.same in let z : ◌≡◌ {A = ℕ} 0 1 = cc in absurd (omega arith)
-  struct_fielded (DefinitionKind.Let t e v path) list is h a = let same = is.same in let z : ◌≡◌ {A = ℕ} 0 1 = cc in absurd (omega arith)
-  struct_fielded (DefinitionKind.Parameter t) list is h a = let same = is.same in let z : ◌≡◌ {A = ℕ} 0 1 = cc in absurd (omega arith)
-  struct_fielded (DefinitionKind.Use home item) list is h a = let same = is.same in let z : ◌≡◌ {A = ℕ} 0 1 = cc in absurd (omega arith)
-  struct_fielded DefinitionKind.LoopVariable list is h a = let same = is.same in let z : ◌≡◌ {A = ℕ} 0 1 = cc in absurd (omega arith)
+  struct_fielded kind list is a = subst⁻¹ (λ k. Runs linked file words (struct_kind_data m d s (definition_kind_of file words k)) depth T O T' O' r) is a
 
-  pub function_parted : (kind : DefinitionKind) {f : Option (ℕ × Items)} (u : ℕ) (list : Items) → FunctionParts kind f → f ≡ Some (u, list)
+  pub function_parted : (kind : DefinitionKind) (u : ℕ) (list : Items) → kind ≡ DefinitionKind.Function u list
       → Runs linked file words (signature_type m d s u (names_with_types_of file words list)) depth T O T' O' r
       → Runs linked file words (function_kind_signature m d s (definition_kind_of file words kind)) depth T O T' O' r
   unfolding signature_type function_kind_signature
-  function_parted (DefinitionKind.Function t l) u list is h a =
-      let p = some-injective (sym is.same ∙ h) in let z : l ≡ list = ap (λ p. p.1) p in let w : t ≡ u = ap (λ p. p.0) p in
-      subst⁻¹ (λ k. Runs linked file words (function_kind_signature m d s (definition_kind_of file words (DefinitionKind.Function t k))) depth T O T' O' r) z
-      (subst⁻¹ (λ k. Runs linked file words (function_kind_signature m d s (definition_kind_of file words (DefinitionKind.Function k list))) depth T O T' O' r) w a)
-  function_parted (DefinitionKind.Struct l) u list is h a = let same = is.same in let z : ◌≡◌ {A = ℕ} 0 1 = cc in absurd (omega arith)
-  function_parted (DefinitionKind.Const t e) u list is h a = let same = is.same in let z : ◌≡◌ {A = ℕ} 0 1 = cc in absurd (omega arith)
-  function_parted (DefinitionKind.Let t e v path) u list is h a = let same = is.same in let z : ◌≡◌ {A = ℕ} 0 1 = cc in absurd (omega arith)
-  function_parted (DefinitionKind.Parameter t) u list is h a = let same = is.same in let z : ◌≡◌ {A = ℕ} 0 1 = cc in absurd (omega arith)
-  function_parted (DefinitionKind.Use home item) u list is h a = let same = is.same in let z : ◌≡◌ {A = ℕ} 0 1 = cc in absurd (omega arith)
-  function_parted DefinitionKind.LoopVariable u list is h a = let same = is.same in let z : ◌≡◌ {A = ℕ} 0 1 = cc in absurd (omega arith)
+  function_parted kind u list is a = subst⁻¹ (λ k. Runs linked file words (function_kind_signature m d s (definition_kind_of file words k)) depth T O T' O' r) is a
 
 module _ {file words : List ℕ} {depth : ℕ} {T : List ℕ} {O : List (List ℕ)} (ok : Ready file words depth T O) (m d s : ℕ) where
   -- a definition of another kind
-  pub no_struct : (kind : DefinitionKind) {f : Option Items} → StructFields kind f → f ≡ None
+  pub no_struct : (kind : DefinitionKind) → ((list : Items) → kind ≡ DefinitionKind.Struct list → ⊥)
       → Runs linked file words (struct_kind_data m d s (definition_kind_of file words kind)) depth T O T O (Ok None)
   unfolding struct_kind_data
-  no_struct (DefinitionKind.Struct l) is h = let same = is.same in let z : ◌≡◌ {A = ℕ} 0 1 = cc in absurd (omega arith)
-  no_struct (DefinitionKind.Function t l) is h = knows_nothing ok
-  no_struct (DefinitionKind.Const t e) is h = knows_nothing ok
-  no_struct (DefinitionKind.Let t e v path) is h = knows_nothing ok
-  no_struct (DefinitionKind.Parameter t) is h = knows_nothing ok
-  no_struct (DefinitionKind.Use home item) is h = knows_nothing ok
-  no_struct DefinitionKind.LoopVariable is h = knows_nothing ok
+  no_struct (DefinitionKind.Struct l) other = absurd (other l refl)
+  no_struct (DefinitionKind.Function t l) other = knows_nothing ok
+  no_struct (DefinitionKind.Const t e) other = knows_nothing ok
+  no_struct (DefinitionKind.Let t e v path) other = knows_nothing ok
+  no_struct (DefinitionKind.Parameter t) other = knows_nothing ok
+  no_struct (DefinitionKind.Use home item) other = knows_nothing ok
+  no_struct DefinitionKind.LoopVariable other = knows_nothing ok
 
-  pub no_function : (kind : DefinitionKind) {f : Option (ℕ × Items)} → FunctionParts kind f → f ≡ None
+  pub no_function : (kind : DefinitionKind) → ((u : ℕ) (list : Items) → kind ≡ DefinitionKind.Function u list → ⊥)
       → Runs linked file words (function_kind_signature m d s (definition_kind_of file words kind)) depth T O T O (Ok None)
   unfolding function_kind_signature
-  no_function (DefinitionKind.Struct l) is h = knows_nothing ok
-  no_function (DefinitionKind.Function t l) is h = let same = is.same in let z : ◌≡◌ {A = ℕ} 0 1 = cc in absurd (omega arith)
-  no_function (DefinitionKind.Const t e) is h = knows_nothing ok
-  no_function (DefinitionKind.Let t e v path) is h = knows_nothing ok
-  no_function (DefinitionKind.Parameter t) is h = knows_nothing ok
-  no_function (DefinitionKind.Use home item) is h = knows_nothing ok
-  no_function DefinitionKind.LoopVariable is h = knows_nothing ok
+  no_function (DefinitionKind.Struct l) other = knows_nothing ok
+  no_function (DefinitionKind.Function t l) other = absurd (other t l refl)
+  no_function (DefinitionKind.Const t e) other = knows_nothing ok
+  no_function (DefinitionKind.Let t e v path) other = knows_nothing ok
+  no_function (DefinitionKind.Parameter t) other = knows_nothing ok
+  no_function (DefinitionKind.Use home item) other = knows_nothing ok
+  no_function DefinitionKind.LoopVariable other = knows_nothing ok
 
 -- ------------------------------------------------------------------ results that are turned over
 

@@ -25,7 +25,7 @@ use Rattle.type_table.specs.Layout.{table_of, types_of, item_count}
 use Rattle.type_table.specs.declared.TypeList.{TypeList}
 use Rattle.type_table.specs.Promises.{Grows}
 use Rattle.type_table.proofs.Growth.{grows_refl, grows_trans}
-use Rattle.type_resolution.specs.State.{Ready, Runs, typed, ignored, collected, compared, Exactly, AtMost}
+use Rattle.type_resolution.specs.State.{Ready, Runs, typed, ignored, collected, compared, AtMost}
 use Rattle.type_resolution.proofs.Running.{handler, Gives, is_ok, is_err, ends, then_stop, is_handed_on}
 use Rattle.type_resolution.proofs.Shaped.{bind_assoc, bind_done}
 
@@ -353,17 +353,8 @@ types_kept {w} {w'} g list within =
 
 -- ------------------------------------------------------------------ how many were collected
 
-pub exactly_all : (n : ℕ) → Exactly n (Ok n)
-exactly_all n = record { number = λ k e. cc }
-
-pub exactly_none : (count : ℕ) {r : Result ℕ Refusal} {refusal : Refusal} → r ≡ Err refusal → Exactly count r
-exactly_none count h = record { number = λ k e. let z : ◌≡◌ {A = ℕ} 0 1 = cc in absurd (omega arith) }
-
 pub at_most_all : (count n : ℕ) → n ≤ count → AtMost count (Ok n)
 at_most_all count n le = record { number = λ k e. let same : n ≡ k = cc in omega (arith, le, same) }
-
-pub at_most_none : (count : ℕ) {r : Result ℕ Refusal} {refusal : Refusal} → r ≡ Err refusal → AtMost count r
-at_most_none count h = record { number = λ k e. let z : ◌≡◌ {A = ℕ} 0 1 = cc in absurd (omega arith) }
 
 pub taken_length : (n : ℕ) (l : List ℕ) → n ≤ length l → n ≡ length (take n l)
 taken_length n l le = let e = length-take n l in omega (arith, e, le)

@@ -7,6 +7,8 @@ use Rattle.std.specs.Prelude.{Option, None, Some, Result, Ok, Err, IsErr, IsErrA
 use Rattle.std.specs.Result.{result_ok}
 use mathlib.Core.List.{List}
 use Rattle.records.specs.Layout.{index_of}
+use Rattle.records.specs.Meaning.{expression_link_of}
+use Rattle.records.specs.declared.ExpressionId.{ExpressionId}
 use Rattle.resolution.specs.TypeData.{TypeData}
 use Rattle.resolution.specs.Types.{Table, data_of}
 use Rattle.resolution.specs.Programs.{Demand, Answer, Program, done, refuse, ask, look, ◌>>=◌, let_some, when◌then◌else◌, type_data}
@@ -95,9 +97,6 @@ module _ {file words : List ℕ} {depth : ℕ} {T : List ℕ} {O : List (List �
   pub answers : {n m : ℕ} → n ≡ m → Runs typed file words (done m) depth T O T O (Ok n)
   answers e = ends ok (is_ok _ (ap Ok e))
 
-  pub refuses : (refusal : Refusal) → Runs typed file words (refuse (refusal_number refusal)) depth T O T O (Err refusal)
-  refuses refusal = stops ok (is_err _ refl)
-
   -- a missing link, refused as `ok_or` was told
   pub missing_runs : {A : Type 0} (o : Option A) (given : Refusal) {r : Result A Refusal} {refusal : Refusal} {s : Result ℕ Refusal} → r ≡ ok_or o given → r ≡ Err refusal
       → IsErr s × IsErrAnd s (λ e. e ≡ refusal) → Runs typed file words (refuse (refusal_number given)) depth T O T O s
@@ -146,6 +145,17 @@ module _ {A B R S : Type 0} {means : R → Table → Outcome A} {meaning : S →
     grows = a.grows;
   }
 
+-- the program goes on with what a call gave, or ends with the refusal that `?` hands on
+module _ {A B : Type 0} {file words : List ℕ} {depth : ℕ} {T : List ℕ} {O : List (List ℕ)} {T' : List ℕ} {O' : List (List ℕ)} {r : Result A Refusal} {p : Program A}
+    (a : Runs (answer_by (λ x. x)) file words p depth T O T' O' r) (f : A → Program B) where
+  pub then_given : {S : Type 0} {meaning : S → Table → Outcome B} {x : A} {T'' : List ℕ} {O'' : List (List ℕ)} {s : S} → r ≡ Ok x
+      → Runs meaning file words (f x) depth T' O' T'' O'' s → Runs meaning file words (p >>= f) depth T O T'' O'' s
+  then_given e b = then_on a f (is_ok (λ x. x) e) b
+
+  pub then_refused : {s : Result B Refusal} {refusal : Refusal} → r ≡ Err refusal → IsErr s × IsErrAnd s (λ e. e ≡ refusal)
+      → Runs (answer_by (λ x. x)) file words (p >>= f) depth T O T' O' s
+  then_refused e handed = then_stop a f (is_err (λ x. x) e) (is_handed_on (λ x. x) _ handed)
+
 -- ------------------------------------------------------------------ choices
 
 module _ {A R : Type 0} {meaning : R → Table → Outcome A} {file words : List ℕ} {depth : ℕ} {T : List ℕ} {O : List (List ℕ)} {T' : List ℕ} {O' : List (List ℕ)} {r : R} where
@@ -160,6 +170,11 @@ module _ {A R : Type 0} {meaning : R → Table → Outcome A} {file words : List
   pub some_runs : {X : Type 0} (o : Option X) (p : Program A) (f : X → Program A) {x : X} → o ≡ Some x → Runs meaning file words (f x) depth T O T' O' r → Runs meaning file words (let_some o p f) depth T O T' O' r
   unfolding let_some
   some_runs o p f e a = subst⁻¹ (λ y. Runs meaning file words (let_some y p f) depth T O T' O' r) e a
+
+  -- a child that `ok_or` finds
+  pub child_runs : {o : Option ExpressionId} {e : Result ExpressionId Refusal} {x : ExpressionId} (p : Program A) (f : ℕ → Program A) → o ≡ result_ok e → e ≡ Ok x
+      → Runs meaning file words (f x.0) depth T O T' O' r → Runs meaning file words (let_some (expression_link_of o) p f) depth T O T' O' r
+  child_runs p f is h a = some_runs _ p f (ap expression_link_of (was_there is h)) a
 
   pub none_runs : {X : Type 0} (o : Option X) (p : Program A) (f : X → Program A) → o ≡ None → Runs meaning file words p depth T O T' O' r → Runs meaning file words (let_some o p f) depth T O T' O' r
   unfolding let_some

@@ -26,7 +26,7 @@ use Rattle.records.specs.declared.ExpressionInfo.{ExpressionInfo}
 use Rattle.records.specs.declared.Items.{Items}
 use Rattle.type_resolution.specs.State.{Ready}
 use Rattle.type_resolution.specs.Shapes.{ShortType, ShortNode}
-use Rattle.type_resolution.specs.Leaves.{TypeIn, DefinitionIn, ExpressionIn, StructFields, FunctionParts}
+use Rattle.type_resolution.specs.Leaves.{TypeIn, DefinitionIn, ExpressionIn}
 
 -- ------------------------------------------------------------------ one of many
 
@@ -94,29 +94,17 @@ node_short file words (Expression.Cast t) le = tt
 node_short file words (Expression.New t count) le = tt
 node_short file words (Expression.Parenthesized inner) le = tt
 
-struct_short : (file words : List ℕ) (kind : DefinitionKind) (f : Option Items) (list : Items) → StructFields kind f → f ≡ Some list
+struct_short : (file words : List ℕ) (kind : DefinitionKind) (list : Items) → kind ≡ DefinitionKind.Struct list
     → kind_items (definition_kind_of file words kind) ≤ 2048 → list.count ≤ 2048
 unfolding kind_items
-struct_short file words (DefinitionKind.Function t l) f list is h le = let same = is.same in let z : ◌≡◌ {A = ℕ} 0 1 = cc in absurd (omega arith)
-struct_short file words (DefinitionKind.Struct l) f list is h le =
-    let same = is.same in let z : l ≡ list = cc in subst (λ k. k.count ≤ 2048) z (subst (λ n. n ≤ 2048) (names_length file words l.first l.count) le)
-struct_short file words (DefinitionKind.Const t e) f list is h le = let same = is.same in let z : ◌≡◌ {A = ℕ} 0 1 = cc in absurd (omega arith)
-struct_short file words (DefinitionKind.Let t e v path) f list is h le = let same = is.same in let z : ◌≡◌ {A = ℕ} 0 1 = cc in absurd (omega arith)
-struct_short file words (DefinitionKind.Parameter t) f list is h le = let same = is.same in let z : ◌≡◌ {A = ℕ} 0 1 = cc in absurd (omega arith)
-struct_short file words (DefinitionKind.Use home item) f list is h le = let same = is.same in let z : ◌≡◌ {A = ℕ} 0 1 = cc in absurd (omega arith)
-struct_short file words DefinitionKind.LoopVariable f list is h le = let same = is.same in let z : ◌≡◌ {A = ℕ} 0 1 = cc in absurd (omega arith)
+struct_short file words kind list is le =
+    subst (λ n. n ≤ 2048) (names_length file words list.first list.count) (subst (λ k. kind_items (definition_kind_of file words k) ≤ 2048) is le)
 
-function_short : (file words : List ℕ) (kind : DefinitionKind) (f : Option (ℕ × Items)) (u : ℕ) (list : Items) → FunctionParts kind f → f ≡ Some (u, list)
+function_short : (file words : List ℕ) (kind : DefinitionKind) (u : ℕ) (list : Items) → kind ≡ DefinitionKind.Function u list
     → kind_items (definition_kind_of file words kind) ≤ 2048 → list.count ≤ 2048
 unfolding kind_items
-function_short file words (DefinitionKind.Function t l) f u list is h le =
-    let p = some-injective (sym is.same ∙ h) in let z : l ≡ list = ap (λ p. p.1) p in subst (λ k. k.count ≤ 2048) z (subst (λ n. n ≤ 2048) (names_length file words l.first l.count) le)
-function_short file words (DefinitionKind.Struct l) f u list is h le = let same = is.same in let z : ◌≡◌ {A = ℕ} 0 1 = cc in absurd (omega arith)
-function_short file words (DefinitionKind.Const t e) f u list is h le = let same = is.same in let z : ◌≡◌ {A = ℕ} 0 1 = cc in absurd (omega arith)
-function_short file words (DefinitionKind.Let t e v path) f u list is h le = let same = is.same in let z : ◌≡◌ {A = ℕ} 0 1 = cc in absurd (omega arith)
-function_short file words (DefinitionKind.Parameter t) f u list is h le = let same = is.same in let z : ◌≡◌ {A = ℕ} 0 1 = cc in absurd (omega arith)
-function_short file words (DefinitionKind.Use home item) f u list is h le = let same = is.same in let z : ◌≡◌ {A = ℕ} 0 1 = cc in absurd (omega arith)
-function_short file words DefinitionKind.LoopVariable f u list is h le = let same = is.same in let z : ◌≡◌ {A = ℕ} 0 1 = cc in absurd (omega arith)
+function_short file words kind u list is le =
+    subst (λ n. n ≤ 2048) (names_length file words list.first list.count) (subst (λ k. kind_items (definition_kind_of file words k) ≤ 2048) is le)
 
 -- ------------------------------------------------------------------ for callers
 
@@ -138,10 +126,10 @@ module _ {file words : List ℕ} {depth : ℕ} {T : List ℕ} {O : List (List �
       short_by file words ok.few m (λ home. home.definitions) definition_items (λ home. omega arith) i.there d _
       (i.module_is file) (sym (ap (found_definition_of file words) h) ∙ i.same file)
 
-  pub short_fields : {m d : ℕ} {r : Option Definition} {x : Definition} {f : Option Items} {list : Items} → DefinitionIn words m d r → r ≡ Some x
-      → StructFields x.kind f → f ≡ Some list → list.count ≤ 2048
-  short_fields {x = x} {f} {list} i h s e = struct_short file words x.kind f list s e (kind_short i h)
+  pub short_fields : {m d : ℕ} {r : Option Definition} {x : Definition} {list : Items} → DefinitionIn words m d r → r ≡ Some x
+      → x.kind ≡ DefinitionKind.Struct list → list.count ≤ 2048
+  short_fields {x = x} {list} i h is = struct_short file words x.kind list is (kind_short i h)
 
-  pub short_params : {m d : ℕ} {r : Option Definition} {x : Definition} {f : Option (ℕ × Items)} {u : ℕ} {list : Items} → DefinitionIn words m d r → r ≡ Some x
-      → FunctionParts x.kind f → f ≡ Some (u, list) → list.count ≤ 2048
-  short_params {x = x} {f} {u} {list} i h s e = function_short file words x.kind f u list s e (kind_short i h)
+  pub short_params : {m d : ℕ} {r : Option Definition} {x : Definition} {u : ℕ} {list : Items} → DefinitionIn words m d r → r ≡ Some x
+      → x.kind ≡ DefinitionKind.Function u list → list.count ≤ 2048
+  short_params {x = x} {u} {list} i h is = function_short file words x.kind u list is (kind_short i h)

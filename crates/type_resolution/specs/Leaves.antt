@@ -10,8 +10,6 @@ use Rattle.records.specs.Meaning.{found_type_expr_of, found_definition_of, found
 use Rattle.records.specs.declared.TypeExpr.{TypeExpr}
 use Rattle.records.specs.declared.Definition.{Definition}
 use Rattle.records.specs.declared.ExpressionInfo.{ExpressionInfo}
-use Rattle.records.specs.declared.Items.{Items}
-use Rattle.records.specs.declared.DefinitionKind.{DefinitionKind}
 use Rattle.resolution.specs.Types.{Table}
 use Rattle.resolution.specs.Views.{numeric, numeric_context}
 use Rattle.type_table.specs.Layout.{table_of, type_count}
@@ -33,32 +31,6 @@ pub record ExpressionIn (words : List ℕ) (m e : ℕ) (r : Option ExpressionInf
   pub there : Bool
   pub module_is : (file : List ℕ) → module_at (index_of file words) m ≡ (if there then Some (module_row file words m) else None)
   pub same : (file : List ℕ) → found_expression_of file words r ≡ (if there then expression_at (module_row file words m) e else None)
-
--- ------------------------------------------------------------------ kinds of definitions
-
-abbrev pub fields_of : DefinitionKind → Option Items
-fields_of (DefinitionKind.Function t list) = None
-fields_of (DefinitionKind.Struct list) = Some list
-fields_of (DefinitionKind.Const t e) = None
-fields_of (DefinitionKind.Let t e v path) = None
-fields_of (DefinitionKind.Parameter t) = None
-fields_of (DefinitionKind.Use home item) = None
-fields_of DefinitionKind.LoopVariable = None
-
-abbrev pub function_of : DefinitionKind → Option (ℕ × Items)
-function_of (DefinitionKind.Function t list) = Some (t, list)
-function_of (DefinitionKind.Struct list) = None
-function_of (DefinitionKind.Const t e) = None
-function_of (DefinitionKind.Let t e v path) = None
-function_of (DefinitionKind.Parameter t) = None
-function_of (DefinitionKind.Use home item) = None
-function_of DefinitionKind.LoopVariable = None
-
-pub record StructFields (kind : DefinitionKind) (r : Option Items) : Type 0 where
-  pub same : r ≡ fields_of kind
-
-pub record FunctionParts (kind : DefinitionKind) (r : Option (ℕ × Items)) : Type 0 where
-  pub same : r ≡ function_of kind
 
 -- ------------------------------------------------------------------ results
 

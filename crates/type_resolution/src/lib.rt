@@ -6,7 +6,10 @@
 // `arr`, `rep`, `new`), one for a type expression likewise (`tup`, since `tuple` is the node's, and `array`).
 // Each member is given the index, the two lent buffers, how many demands are open, and the module. The buffers are two parameters and no struct of two
 // `&mut` fields: behind a `&mut` of such a struct a shared reborrow of a field leaves nothing known of what the field holds but its length, so the
-// promises of the reads (`type_table`) would say nothing of the words that are changed next.
+// promises of the reads (`type_table`) would say nothing of the words that are changed next. The module stands in no struct with the index either: a
+// `use` leads into another module of the same index, and each demand names its module by number.
+// All is one file, since the members are one cycle and proved together: in modules each goal's name would begin with its member's module as well, and
+// no member would know less of the others. What a read gives as a pair is taken apart where it is read, so the pairs have no names of their own.
 #![tactic(auto)]
 
 ghost use Rattle.std.specs.Prelude.{◌≡◌, ◌+◌, ◌≤◌, ◌<◌, Some, length};
@@ -19,7 +22,7 @@ ghost use Rattle.type_resolution.specs.State.{ReadyIn, RunsIn, typed, linked, ig
 ghost use Rattle.views.specs.Asking.{asked_of};
 ghost use Rattle.type_resolution.specs.Asking.{says, said_type};
 ghost use Rattle.type_resolution.specs.Shapes.{struct_named, declared_type, tuple_expr_type, struct_type, signature_type, literal_in, array_literal_in, empty_array_in, repeat_in, links_behind, ShortType, ShortNode};
-ghost use Rattle.type_resolution.specs.Leaves.{TypeIn, DefinitionIn, ExpressionIn, Passed, Returned, NumericOr, StructFields, FunctionParts, HintBelow};
+ghost use Rattle.type_resolution.specs.Leaves.{TypeIn, DefinitionIn, ExpressionIn, Passed, Returned, NumericOr, HintBelow};
 
 use demands::{OpenDemand, Place};
 use records::{
@@ -64,26 +67,6 @@ fn expression_in(words: &[u32], m: u32, e: ExpressionId) -> Option<ExpressionInf
     }
 }
 
-// The fields, where the definition is a struct.
-fn struct_fields(kind: DefinitionKind) -> Option<Items>
-    ensures { StructFields kind result }
-{
-    match kind {
-        DefinitionKind::Struct(list) => Some(list),
-        _ => None,
-    }
-}
-
-// The return type and the parameters, where the definition is a function.
-fn function_parts(kind: DefinitionKind) -> Option<(u32, Items)>
-    ensures { FunctionParts kind result }
-{
-    match kind {
-        DefinitionKind::Function(t, list) => Some((t, list)),
-        _ => None,
-    }
-}
-
 // ------------------------------------------------------------------ results
 
 // The parameter of a signature.
@@ -106,10 +89,7 @@ fn returned(types: &[u32], signature: Option<u32>) -> Option<u32>
 fn numeric_or(types: &[u32], t: u32, context: Option<u32>) -> u32
     ensures { NumericOr types.now t context result }
 {
-    match type_table::numeric(types, t) {
-        Some(n) => n,
-        None => type_table::numeric_context(types, context),
-    }
+    type_table::numeric(types, t).unwrap_or_else(|| type_table::numeric_context(types, context))
 }
 
 // ------------------------------------------------------------------ resolve_ast_type
@@ -281,7 +261,7 @@ fn def_type(
     def(index, types, demands, next, m, d, x.scope, x.kind)
 }
 
-// A definition by its kind.
+// A definition by its kind. The arms are the definition's, one for each kind; a member of its own for one of them would be longer than the arm.
 #[cycle(resolution)]
 fn def(
     index: &Index,
@@ -388,7 +368,7 @@ fn struct_data(
     let Some(x) = definition_in(index.words, m, d) else {
         return Ok(None);
     };
-    let Some(list) = struct_fields(x.kind) else {
+    let DefinitionKind::Struct(list) = x.kind else {
         return Ok(None);
     };
     fields(index, types, demands, next, m, d, x.scope, list)
@@ -424,7 +404,8 @@ fn fields(
     Ok(Some(t))
 }
 
-// `function_semantic_signature`.
+// `function_semantic_signature`. It is alike with `struct_data` and stays beside it: they are two of the five tracked functions, each with a demand, a kind
+// and a member for the parts of its own, so that one function for both would be given all three and promise by cases.
 #[cycle(resolution)]
 fn fn_signature(
     index: &Index,
@@ -441,7 +422,7 @@ fn fn_signature(
     let Some(x) = definition_in(index.words, m, d) else {
         return Ok(None);
     };
-    let Some((t, list)) = function_parts(x.kind) else {
+    let DefinitionKind::Function(t, list) = x.kind else {
         return Ok(None);
     };
     sig(index, types, demands, next, m, d, x.scope, t, list)
@@ -495,7 +476,8 @@ fn expr_type(
     node(index, types, demands, next, m, info, expected)
 }
 
-// The expected type: a given context overrides the origin.
+// The expected type: a given context overrides the origin. The arms are the definition's, one for each origin; a member of its own
+// for one of them would be longer than the arm.
 #[cycle(resolution)]
 fn origin(
     index: &Index,
@@ -546,7 +528,8 @@ fn origin(
     }
 }
 
-// An expression by its node, in a context.
+// An expression by its node, in a context. The arms are the definition's, one for each node, and most are one call; a member of its own
+// for one of the others would be longer than the arm.
 #[cycle(resolution)]
 fn node(
     index: &Index,
@@ -872,7 +855,8 @@ fn tuple(
     }
 }
 
-// Each element of a tuple that is there, with its context.
+// Each element of a tuple that is there, with its context. The count beside the loop is of those that are there, which no `for` counts; and a chain of
+// iterators would take a closure that changes the lent buffers, of which the proof would know nothing behind it.
 #[cycle(resolution)]
 fn elems(
     index: &Index,
@@ -1045,8 +1029,7 @@ fn rep(
 fn said_type(resolved: Result<u32, Refusal>) -> Result<Option<u32>, Refusal>
     ensures { result ≡ said_type resolved }
 {
-    let t = resolved?;
-    Ok(Some(t))
+    resolved.map(Some)
 }
 
 // What the line says: a type, or the word `none`, or a refusal. An absent module, expression or definition gives error, but for a byte: there it gives `none`. A

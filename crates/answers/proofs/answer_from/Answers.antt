@@ -1,7 +1,6 @@
 -- `answers::answer_from` meets its contract: a short buffer is refused, and else the first words and places are lent. Assumes nothing.
 use Rattle.std.proofs.Common.{◌∙◌}
 use lib.Seq.{length-take-le}
-use Rattle.answers.specs.Numbers.{lines_numbers}
 use Rattle.answers.proofs.Entries.{answered_from}
 use Rattle.answers.proofs.answer_from.Goals as goal
 
@@ -20,7 +19,5 @@ returns-clause-full c =
     let a = c.args in
     let long = c.if-not-are_long.ensures in
     let r = c.lines_exact in
-    let words_long = r.auto.words ∙ length-take-le 16384 a.records.now long.records_long in
-    let types_long = r.auto.types ∙ length-take-le 8192 a.types.now long.types_long in
-    let places_long = r.auto.demands ∙ length-take-le 256 a.demands.now long.places_long in
-    λ h. answered_from a.records.now a.types.now a.demands.now r.new.words r.new.types r.new.demands words_long types_long places_long a.out.now r.new.out long.bytes_long (r.auto.out ∙ length-take-le 4160 a.out.now long.bytes_long) a.file.now a.from a.line (lines_numbers r.result) r.ensures
+    λ h. answered_from _ _ _ _ _ _ (r.auto.words ∙ length-take-le 16384 a.records.now long.records_long) (r.auto.types ∙ length-take-le 8192 a.types.now long.types_long)
+    (r.auto.demands ∙ length-take-le 256 a.demands.now long.places_long) _ _ long.bytes_long (r.auto.out ∙ length-take-le 4160 a.out.now long.bytes_long) _ _ _ _ r.ensures

@@ -1,5 +1,5 @@
 -- The buffers stay as long as they are, and each part leaves fewer lines.
-use Rattle.std.proofs.Common.{◌≡◌, length, take}
+use Rattle.std.proofs.Common.{◌≡◌, length}
 use Rattle.answers.specs.Whole.{lines_left}
 use Rattle.resolve.proofs.main.Given as goal
 
@@ -7,4 +7,4 @@ abbrev pub invariant-loop-next : goal.invariant-loop-next
 invariant-loop-next l = (16384 ≡ length l.records) × (8192 ≡ length l.types) × (256 ≡ length l.demands) × (4160 ≡ length l.out)
 
 abbrev pub decreases-loop-next : goal.decreases-loop-next
-decreases-loop-next l = lines_left (take l.n l.space) l.from l.line
+decreases-loop-next l = lines_left l.file l.from l.line

@@ -11,7 +11,7 @@ use Rattle.type_table.specs.Reads.{numeric_context_read}
 use Rattle.type_table.specs.Meaning.{found_signature_of}
 use Rattle.type_resolution.specs.Shapes.{ShortNode, ShortType, empty_array_in, struct_named, repeat_in, tuple_expr_type}
 use Rattle.type_resolution.proofs.Leading.{leads_from, numbers_begin, collecting_begin, all_more, all_stops, all_ends, links_begin, arguments_more, arguments_stop, arguments_done, types_kept, gathering_begin, elements_more, elements_skip, elements_stop, elements_end, at_most_all, taken_length, links_behind_first, same_absent, same_more, same_differs, same_stops, same_all}
-use Rattle.type_resolution.proofs.Running.{is_ok, is_err, is_handed_on, was_there, was_missing, missing_runs, answers, then_on, then_stop, if_true, if_false, some_runs, none_runs, data_runs, entered_ready, entered_stops, entered_runs, enter_falls, look_runs, reads, same_runs, ends, knows, knows_nothing}
+use Rattle.type_resolution.proofs.Running.{then_given, then_refused, child_runs, is_ok, is_err, is_handed_on, was_there, was_missing, missing_runs, answers, then_on, then_stop, if_true, if_false, some_runs, none_runs, data_runs, entered_ready, entered_stops, entered_runs, enter_falls, look_runs, reads, same_runs, ends, knows, knows_nothing}
 use Rattle.type_resolution.proofs.Below.{expression_below, later_below, interns_runs, type_below, collected_below, later_all_below, elements_below, contexts_good}
 use Rattle.type_resolution.proofs.Arms.{hinted, hint_found, is_array, no_array, by_kind, or_error_runs, let_whole, let_part, element_below, hint_at, eq-eqb, ne_eqb, function_parted, no_function, numeric_runs, by_node, led_to, from_origin, given_context, passed_runs, returned_runs, repeated, struct_fielded, no_struct, by_type_expr, declared_as, valued_as, neither_as}
 use Rattle.type_resolution.proofs.Chains.{no_elements, some_elements, use_shaped, struct_listed, literal_numbered, identifier_shaped, literal_shaped, array_shaped, argument_shaped, field_shaped, signature_listed, tuple_looked}
@@ -63,22 +63,22 @@ pub arr-expr_type-requires : goal.arr-expr_type-requires
 arr-expr_type-requires t c = (omega (arith, c.decreases), c.requires)
 
 pub arr-returns-in_err-t : goal.arr-returns-in_err-t
-arr-returns-in_err-t t c = some_elements _ _ _ _ c.element_hint-hint.result (c.element_hint-hint.ensures _) _ _ (omega (arith, c.if-count-eq0.false)) (some_runs _ _ _ (sym c.item_link.ensures ∙ ap expression_link_of (was_there c.ok_or.ensures.ok_part c.in_ok-e.was)) (then_stop c.expr_type.ensures _ (is_err _ c.in_err-t.was) (is_handed_on _ _ c.from_residual-in_err-t.ensures)))
+arr-returns-in_err-t t c = some_elements _ _ _ _ c.element_hint-hint.result (c.element_hint-hint.ensures _) _ _ (omega (arith, c.if-count-eq0.false)) (some_runs _ _ _ (sym c.item_link.ensures ∙ ap expression_link_of (was_there c.ok_or.ensures.ok_part c.in_ok-e.was)) (then_refused c.expr_type.ensures _ c.in_err-t.was c.from_residual-in_err-t.ensures))
 
 pub arr-same-requires : goal.arr-same-requires
 arr-same-requires t c = (omega (arith, c.decreases), (c.expr_type.ensures.ready, omega (arith, c.if-count-eq0.false)))
 
 pub arr-returns-in_err-fits : goal.arr-returns-in_err-fits
-arr-returns-in_err-fits t c = some_elements _ _ _ _ c.element_hint-hint.result (c.element_hint-hint.ensures _) _ _ (omega (arith, c.if-count-eq0.false)) (some_runs _ _ _ (sym c.item_link.ensures ∙ ap expression_link_of (was_there c.ok_or.ensures.ok_part c.in_ok-e.was)) (then_on c.expr_type.ensures _ (is_ok _ c.in_ok-t.was) (then_stop c.same.ensures _ (is_err _ c.in_err-fits.was) (is_handed_on _ _ c.from_residual-in_err-fits.ensures))))
+arr-returns-in_err-fits t c = some_elements _ _ _ _ c.element_hint-hint.result (c.element_hint-hint.ensures _) _ _ (omega (arith, c.if-count-eq0.false)) (some_runs _ _ _ (sym c.item_link.ensures ∙ ap expression_link_of (was_there c.ok_or.ensures.ok_part c.in_ok-e.was)) (then_given c.expr_type.ensures _ c.in_ok-t.was (then_refused c.same.ensures _ c.in_err-fits.was c.from_residual-in_err-fits.ensures)))
 
 pub arr-intern_array-requires-clause-element_bound : goal.arr-intern_array-requires-clause-element_bound
 arr-intern_array-requires-clause-element_bound t c = later_below c.same.ensures.grows (expression_below c.requires (hinted c.requires _ _ (c.element_hint-hint.ensures _)) c.expr_type.ensures c.in_ok-t.was)
 
 pub arr-returns-then-fits : goal.arr-returns-then-fits
-arr-returns-then-fits t c = some_elements _ _ _ _ c.element_hint-hint.result (c.element_hint-hint.ensures _) _ _ (omega (arith, c.if-count-eq0.false)) (some_runs _ _ _ (sym c.item_link.ensures ∙ ap expression_link_of (was_there c.ok_or.ensures.ok_part c.in_ok-e.was)) (then_on c.expr_type.ensures _ (is_ok _ c.in_ok-t.was) (then_on c.same.ensures _ (is_ok _ c.in_ok-fits.was) (if_true _ _ _ refl c.if-fits.true (interns_runs c.same.ensures.ready c.intern_array.ensures)))))
+arr-returns-then-fits t c = some_elements _ _ _ _ c.element_hint-hint.result (c.element_hint-hint.ensures _) _ _ (omega (arith, c.if-count-eq0.false)) (some_runs _ _ _ (sym c.item_link.ensures ∙ ap expression_link_of (was_there c.ok_or.ensures.ok_part c.in_ok-e.was)) (then_given c.expr_type.ensures _ c.in_ok-t.was (then_given c.same.ensures _ c.in_ok-fits.was (if_true _ _ _ refl c.if-fits.true (interns_runs c.same.ensures.ready c.intern_array.ensures)))))
 
 pub arr-returns-else-fits : goal.arr-returns-else-fits
-arr-returns-else-fits t c = some_elements _ _ _ _ c.element_hint-hint.result (c.element_hint-hint.ensures _) _ _ (omega (arith, c.if-count-eq0.false)) (some_runs _ _ _ (sym c.item_link.ensures ∙ ap expression_link_of (was_there c.ok_or.ensures.ok_part c.in_ok-e.was)) (then_on c.expr_type.ensures _ (is_ok _ c.in_ok-t.was) (then_on c.same.ensures _ (is_ok _ c.in_ok-fits.was) (if_false _ _ _ refl c.if-fits.false (answers c.same.ensures.ready refl)))))
+arr-returns-else-fits t c = some_elements _ _ _ _ c.element_hint-hint.result (c.element_hint-hint.ensures _) _ _ (omega (arith, c.if-count-eq0.false)) (some_runs _ _ _ (sym c.item_link.ensures ∙ ap expression_link_of (was_there c.ok_or.ensures.ok_part c.in_ok-e.was)) (then_given c.expr_type.ensures _ c.in_ok-t.was (then_given c.same.ensures _ c.in_ok-fits.was (if_false _ _ _ refl c.if-fits.false (answers c.same.ensures.ready refl)))))
 
 pub array-returns-then-names_array_expr : goal.array-returns-then-names_array_expr
 unfolding array_type
@@ -89,7 +89,7 @@ array-ast_type-requires t c = (omega (arith, c.decreases), c.requires)
 
 pub array-returns-in_err-element : goal.array-returns-in_err-element
 unfolding array_type
-array-returns-in_err-element t c = if_false _ _ _ (c.names_array_expr.ensures.same _) c.if-names_array_expr.false (then_stop c.ast_type.ensures _ (is_err _ c.in_err-element.was) (is_handed_on _ _ c.from_residual.ensures))
+array-returns-in_err-element t c = if_false _ _ _ (c.names_array_expr.ensures.same _) c.if-names_array_expr.false (then_refused c.ast_type.ensures _ c.in_err-element.was c.from_residual.ensures)
 
 pub array-intern_array-requires-clause-sound : goal.array-intern_array-requires-clause-sound
 array-intern_array-requires-clause-sound t c = c.ast_type.ensures.ready.sound
@@ -99,11 +99,11 @@ array-intern_array-requires-clause-element_bound t c = type_below c.requires c.a
 
 pub array-returns-in-Some : goal.array-returns-in-Some
 unfolding array_type
-array-returns-in-Some t c = if_false _ _ _ (c.names_array_expr.ensures.same _) c.if-names_array_expr.false (then_on c.ast_type.ensures _ (is_ok _ c.in_ok-element.was) (data_runs _ _ (some_runs _ _ _ (is_array _ (c.array_of.ensures _) c.in-Some.is) (answers c.ast_type.ensures.ready refl))))
+array-returns-in-Some t c = if_false _ _ _ (c.names_array_expr.ensures.same _) c.if-names_array_expr.false (then_given c.ast_type.ensures _ c.in_ok-element.was (data_runs _ _ (some_runs _ _ _ (is_array _ (c.array_of.ensures _) c.in-Some.is) (answers c.ast_type.ensures.ready refl))))
 
 pub array-returns-in-None : goal.array-returns-in-None
 unfolding array_type
-array-returns-in-None t c = if_false _ _ _ (c.names_array_expr.ensures.same _) c.if-names_array_expr.false (then_on c.ast_type.ensures _ (is_ok _ c.in_ok-element.was) (data_runs _ _ (none_runs _ _ _ (no_array _ (c.array_of.ensures _) c.in-None.is) (interns_runs c.ast_type.ensures.ready c.intern_array.ensures))))
+array-returns-in-None t c = if_false _ _ _ (c.names_array_expr.ensures.same _) c.if-names_array_expr.false (then_given c.ast_type.ensures _ c.in_ok-element.was (data_runs _ _ (none_runs _ _ _ (no_array _ (c.array_of.ensures _) c.in-None.is) (interns_runs c.ast_type.ensures.ready c.intern_array.ensures))))
 
 pub ast_type-returns-in_err-next : goal.ast_type-returns-in_err-next
 ast_type-returns-in_err-next t c = entered_stops c.requires c.enter.ensures c.in_err-next.was (is_handed_on _ _ c.from_residual.ensures)
@@ -123,43 +123,43 @@ bin-returns-in_err-a t c = none_runs _ _ _ (ap expression_link_of (was_missing c
 
 pub bin-returns-in_err-b : goal.bin-returns-in_err-b
 unfolding binary_type
-bin-returns-in_err-b t c = some_runs _ _ _ (ap expression_link_of (was_there c.ok_or.ensures.ok_part c.in_ok-a.was)) (none_runs _ _ _ (ap expression_link_of (was_missing c.ok_or-2.ensures.ok_part c.in_err-b.was)) (missing_runs c.requires _ Refusal.MissingChild c.ok_or-2.ensures.value c.in_err-b.was c.from_residual-in_err-b.ensures))
+bin-returns-in_err-b t c = child_runs _ _ c.ok_or.ensures.ok_part c.in_ok-a.was (none_runs _ _ _ (ap expression_link_of (was_missing c.ok_or-2.ensures.ok_part c.in_err-b.was)) (missing_runs c.requires _ Refusal.MissingChild c.ok_or-2.ensures.value c.in_err-b.was c.from_residual-in_err-b.ensures))
 
 pub bin-expr_type-requires : goal.bin-expr_type-requires
 bin-expr_type-requires t c = (omega (arith, c.decreases), c.requires)
 
 pub bin-returns-in_err-y : goal.bin-returns-in_err-y
 unfolding binary_type
-bin-returns-in_err-y t c = some_runs _ _ _ (ap expression_link_of (was_there c.ok_or.ensures.ok_part c.in_ok-a.was)) (some_runs _ _ _ (ap expression_link_of (was_there c.ok_or-2.ensures.ok_part c.in_ok-b.was)) (if_true _ _ _ (c.right_first.ensures.same _) c.if-right_first.true (then_stop c.expr_type.ensures _ (is_err _ c.in_err-y.was) (is_handed_on _ _ c.from_residual-in_err-y.ensures))))
+bin-returns-in_err-y t c = child_runs _ _ c.ok_or.ensures.ok_part c.in_ok-a.was (child_runs _ _ c.ok_or-2.ensures.ok_part c.in_ok-b.was (if_true _ _ _ (c.right_first.ensures.same _) c.if-right_first.true (then_refused c.expr_type.ensures _ c.in_err-y.was c.from_residual-in_err-y.ensures)))
 
 pub bin-expr_type-requires-then-right_first : goal.bin-expr_type-requires-then-right_first
 bin-expr_type-requires-then-right_first t c = (omega (arith, c.decreases), c.expr_type.ensures.ready)
 
 pub bin-returns-in_err-x : goal.bin-returns-in_err-x
 unfolding binary_type
-bin-returns-in_err-x t c = some_runs _ _ _ (ap expression_link_of (was_there c.ok_or.ensures.ok_part c.in_ok-a.was)) (some_runs _ _ _ (ap expression_link_of (was_there c.ok_or-2.ensures.ok_part c.in_ok-b.was)) (if_true _ _ _ (c.right_first.ensures.same _) c.if-right_first.true (then_on c.expr_type.ensures _ (is_ok _ c.in_ok-y.was) (then_stop c.expr_type-then-right_first.ensures _ (is_err _ c.in_err-x.was) (is_handed_on _ _ c.from_residual-in_err-x.ensures)))))
+bin-returns-in_err-x t c = child_runs _ _ c.ok_or.ensures.ok_part c.in_ok-a.was (child_runs _ _ c.ok_or-2.ensures.ok_part c.in_ok-b.was (if_true _ _ _ (c.right_first.ensures.same _) c.if-right_first.true (then_given c.expr_type.ensures _ c.in_ok-y.was (then_refused c.expr_type-then-right_first.ensures _ c.in_err-x.was c.from_residual-in_err-x.ensures))))
 
 pub bin-expr_type-requires-else-right_first : goal.bin-expr_type-requires-else-right_first
 bin-expr_type-requires-else-right_first t c = (omega (arith, c.decreases), c.requires)
 
 pub bin-returns-in_err-x-2 : goal.bin-returns-in_err-x-2
 unfolding binary_type
-bin-returns-in_err-x-2 t c = some_runs _ _ _ (ap expression_link_of (was_there c.ok_or.ensures.ok_part c.in_ok-a.was)) (some_runs _ _ _ (ap expression_link_of (was_there c.ok_or-2.ensures.ok_part c.in_ok-b.was)) (if_false _ _ _ (c.right_first.ensures.same _) c.if-right_first.false (then_stop c.expr_type-else-right_first.ensures _ (is_err _ c.in_err-x-2.was) (is_handed_on _ _ c.from_residual-in_err-x-2.ensures))))
+bin-returns-in_err-x-2 t c = child_runs _ _ c.ok_or.ensures.ok_part c.in_ok-a.was (child_runs _ _ c.ok_or-2.ensures.ok_part c.in_ok-b.was (if_false _ _ _ (c.right_first.ensures.same _) c.if-right_first.false (then_refused c.expr_type-else-right_first.ensures _ c.in_err-x-2.was c.from_residual-in_err-x-2.ensures)))
 
 pub bin-expr_type-requires-else-right_first-2 : goal.bin-expr_type-requires-else-right_first-2
 bin-expr_type-requires-else-right_first-2 t c = (omega (arith, c.decreases), c.expr_type-else-right_first.ensures.ready)
 
 pub bin-returns-in_err-y-2 : goal.bin-returns-in_err-y-2
 unfolding binary_type
-bin-returns-in_err-y-2 t c = some_runs _ _ _ (ap expression_link_of (was_there c.ok_or.ensures.ok_part c.in_ok-a.was)) (some_runs _ _ _ (ap expression_link_of (was_there c.ok_or-2.ensures.ok_part c.in_ok-b.was)) (if_false _ _ _ (c.right_first.ensures.same _) c.if-right_first.false (then_on c.expr_type-else-right_first.ensures _ (is_ok _ c.in_ok-x-2.was) (then_stop c.expr_type-else-right_first-2.ensures _ (is_err _ c.in_err-y-2.was) (is_handed_on _ _ c.from_residual-in_err-y-2.ensures)))))
+bin-returns-in_err-y-2 t c = child_runs _ _ c.ok_or.ensures.ok_part c.in_ok-a.was (child_runs _ _ c.ok_or-2.ensures.ok_part c.in_ok-b.was (if_false _ _ _ (c.right_first.ensures.same _) c.if-right_first.false (then_given c.expr_type-else-right_first.ensures _ c.in_ok-x-2.was (then_refused c.expr_type-else-right_first-2.ensures _ c.in_err-y-2.was c.from_residual-in_err-y-2.ensures))))
 
 pub bin-returns-in_ok-x : goal.bin-returns-in_ok-x
 unfolding binary_type
-bin-returns-in_ok-x t c = some_runs _ _ _ (ap expression_link_of (was_there c.ok_or.ensures.ok_part c.in_ok-a.was)) (some_runs _ _ _ (ap expression_link_of (was_there c.ok_or-2.ensures.ok_part c.in_ok-b.was)) (if_true _ _ _ (c.right_first.ensures.same _) c.if-right_first.true (then_on c.expr_type.ensures _ (is_ok _ c.in_ok-y.was) (then_on c.expr_type-then-right_first.ensures _ (is_ok _ c.in_ok-x.was) (look_runs _ (answers c.expr_type-then-right_first.ensures.ready c.binary_result.ensures))))))
+bin-returns-in_ok-x t c = child_runs _ _ c.ok_or.ensures.ok_part c.in_ok-a.was (child_runs _ _ c.ok_or-2.ensures.ok_part c.in_ok-b.was (if_true _ _ _ (c.right_first.ensures.same _) c.if-right_first.true (then_given c.expr_type.ensures _ c.in_ok-y.was (then_given c.expr_type-then-right_first.ensures _ c.in_ok-x.was (look_runs _ (answers c.expr_type-then-right_first.ensures.ready c.binary_result.ensures))))))
 
 pub bin-returns-in_ok-y-2 : goal.bin-returns-in_ok-y-2
 unfolding binary_type
-bin-returns-in_ok-y-2 t c = some_runs _ _ _ (ap expression_link_of (was_there c.ok_or.ensures.ok_part c.in_ok-a.was)) (some_runs _ _ _ (ap expression_link_of (was_there c.ok_or-2.ensures.ok_part c.in_ok-b.was)) (if_false _ _ _ (c.right_first.ensures.same _) c.if-right_first.false (then_on c.expr_type-else-right_first.ensures _ (is_ok _ c.in_ok-x-2.was) (then_on c.expr_type-else-right_first-2.ensures _ (is_ok _ c.in_ok-y-2.was) (look_runs _ (answers c.expr_type-else-right_first-2.ensures.ready c.binary_result-else-right_first.ensures))))))
+bin-returns-in_ok-y-2 t c = child_runs _ _ c.ok_or.ensures.ok_part c.in_ok-a.was (child_runs _ _ c.ok_or-2.ensures.ok_part c.in_ok-b.was (if_false _ _ _ (c.right_first.ensures.same _) c.if-right_first.false (then_given c.expr_type-else-right_first.ensures _ c.in_ok-x-2.was (then_given c.expr_type-else-right_first-2.ensures _ c.in_ok-y-2.was (look_runs _ (answers c.expr_type-else-right_first-2.ensures.ready c.binary_result-else-right_first.ensures))))))
 
 pub call-returns-then-callee_is_builtin : goal.call-returns-then-callee_is_builtin
 unfolding call_type
@@ -174,22 +174,22 @@ call-expr_type-requires t c = (omega (arith, c.decreases), c.requires)
 
 pub call-returns-in_err-t : goal.call-returns-in_err-t
 unfolding call_type
-call-returns-in_err-t t c = if_false _ _ _ c.callee_is_builtin.ensures.same c.if-callee_is_builtin.false (some_runs _ _ _ (ap expression_link_of c.in-Some.is) (then_stop c.expr_type.ensures _ (is_err _ c.in_err-t.was) (is_handed_on _ _ c.from_residual.ensures)))
+call-returns-in_err-t t c = if_false _ _ _ c.callee_is_builtin.ensures.same c.if-callee_is_builtin.false (some_runs _ _ _ (ap expression_link_of c.in-Some.is) (then_refused c.expr_type.ensures _ c.in_err-t.was c.from_residual.ensures))
 
 pub call-returns-in_default-signature_of : goal.call-returns-in_default-signature_of
 unfolding call_type
-call-returns-in_default-signature_of t c = if_false _ _ _ c.callee_is_builtin.ensures.same c.if-callee_is_builtin.false (some_runs _ _ _ (ap expression_link_of c.in-Some.is) (then_on c.expr_type.ensures _ (is_ok _ c.in_ok-t.was) (data_runs _ _ (none_runs _ _ _ (sym (c.signature_of.ensures.same _) ∙ ap (found_signature_of _) c.in_default-signature_of.is) (answers c.expr_type.ensures.ready refl)))))
+call-returns-in_default-signature_of t c = if_false _ _ _ c.callee_is_builtin.ensures.same c.if-callee_is_builtin.false (some_runs _ _ _ (ap expression_link_of c.in-Some.is) (then_given c.expr_type.ensures _ c.in_ok-t.was (data_runs _ _ (none_runs _ _ _ (sym (c.signature_of.ensures.same _) ∙ ap (found_signature_of _) c.in_default-signature_of.is) (answers c.expr_type.ensures.ready refl)))))
 
 pub call-args-requires : goal.call-args-requires
 call-args-requires t c = (omega (arith, c.decreases), (c.expr_type.ensures.ready, c.signature_of.ensures.within _ c.expr_type.ensures.ready.sound _ _ c.in-Some-signature_of.is))
 
 pub call-returns-in_err-args : goal.call-returns-in_err-args
 unfolding call_type
-call-returns-in_err-args t c = if_false _ _ _ c.callee_is_builtin.ensures.same c.if-callee_is_builtin.false (some_runs _ _ _ (ap expression_link_of c.in-Some.is) (then_on c.expr_type.ensures _ (is_ok _ c.in_ok-t.was) (data_runs _ _ (some_runs _ _ _ (sym (c.signature_of.ensures.same _) ∙ ap (found_signature_of _) c.in-Some-signature_of.is) (then_stop c.args-2.ensures _ (is_err _ c.in_err-args.was) (is_handed_on _ _ c.from_residual-in_err-args.ensures))))))
+call-returns-in_err-args t c = if_false _ _ _ c.callee_is_builtin.ensures.same c.if-callee_is_builtin.false (some_runs _ _ _ (ap expression_link_of c.in-Some.is) (then_given c.expr_type.ensures _ c.in_ok-t.was (data_runs _ _ (some_runs _ _ _ (sym (c.signature_of.ensures.same _) ∙ ap (found_signature_of _) c.in-Some-signature_of.is) (then_refused c.args-2.ensures _ c.in_err-args.was c.from_residual-in_err-args.ensures)))))
 
 pub call-returns : goal.call-returns
 unfolding call_type
-call-returns t c = if_false _ _ _ c.callee_is_builtin.ensures.same c.if-callee_is_builtin.false (some_runs _ _ _ (ap expression_link_of c.in-Some.is) (then_on c.expr_type.ensures _ (is_ok _ c.in_ok-t.was) (data_runs _ _ (some_runs _ _ _ (sym (c.signature_of.ensures.same _) ∙ ap (found_signature_of _) c.in-Some-signature_of.is) (then_on c.args-2.ensures _ (is_ok _ c.in_ok-args.was) (answers c.args-2.ensures.ready refl))))))
+call-returns t c = if_false _ _ _ c.callee_is_builtin.ensures.same c.if-callee_is_builtin.false (some_runs _ _ _ (ap expression_link_of c.in-Some.is) (then_given c.expr_type.ensures _ c.in_ok-t.was (data_runs _ _ (some_runs _ _ _ (sym (c.signature_of.ensures.same _) ∙ ap (found_signature_of _) c.in-Some-signature_of.is) (then_given c.args-2.ensures _ c.in_ok-args.was (answers c.args-2.ensures.ready refl))))))
 
 pub def-fn_signature-requires : goal.def-fn_signature-requires
 def-fn_signature-requires t c = (omega (arith, c.decreases), c.requires)
@@ -214,11 +214,11 @@ def-var-requires-in_default t c = (omega (arith, c.decreases), c.requires)
 
 pub def-returns-in_err-signature-in-Function : goal.def-returns-in_err-signature-in-Function
 unfolding definition_kind_type
-def-returns-in_err-signature-in-Function t c = by_kind _ _ _ _ c.in-Function.is (then_stop c.fn_signature.ensures _ (is_err _ c.in_err-signature-in-Function.was) (is_handed_on _ _ c.from_residual.ensures))
+def-returns-in_err-signature-in-Function t c = by_kind _ _ _ _ c.in-Function.is (then_refused c.fn_signature.ensures _ c.in_err-signature-in-Function.was c.from_residual.ensures)
 
 pub def-returns-in_err-data-in-Struct : goal.def-returns-in_err-data-in-Struct
 unfolding definition_kind_type
-def-returns-in_err-data-in-Struct t c = by_kind _ _ _ _ c.in-Struct.is (then_stop c.struct_data.ensures _ (is_err _ c.in_err-data-in-Struct.was) (is_handed_on _ _ c.from_residual-in_err-data-in-Struct.ensures))
+def-returns-in_err-data-in-Struct t c = by_kind _ _ _ _ c.in-Struct.is (then_refused c.struct_data.ensures _ c.in_err-data-in-Struct.was c.from_residual-in_err-data-in-Struct.ensures)
 
 pub def-returns-in_ok-signature-in-Function : goal.def-returns-in_ok-signature-in-Function
 unfolding definition_kind_type
@@ -238,11 +238,11 @@ def-returns-in_default t c = by_kind _ _ _ _ c.in-Let.is (let_whole _ _ _ _ _ _ 
 
 pub def-returns-in_err-current-in-Let : goal.def-returns-in_err-current-in-Let
 unfolding definition_kind_type
-def-returns-in_err-current-in-Let t c = by_kind _ _ _ _ c.in-Let.is (let_part _ _ _ _ _ _ (ap expression_link_of c.in-Some.is) (then_stop c.expr_type.ensures _ (is_err _ c.in_err-current-in-Let.was) (is_handed_on _ _ c.from_residual-in_err-current-in-Let.ensures)))
+def-returns-in_err-current-in-Let t c = by_kind _ _ _ _ c.in-Let.is (let_part _ _ _ _ _ _ (ap expression_link_of c.in-Some.is) (then_refused c.expr_type.ensures _ c.in_err-current-in-Let.was c.from_residual-in_err-current-in-Let.ensures))
 
 pub def-returns-in_ok-current-in-Let : goal.def-returns-in_ok-current-in-Let
 unfolding definition_kind_type
-def-returns-in_ok-current-in-Let t c = by_kind _ _ _ _ c.in-Let.is (let_part _ _ _ _ _ _ (ap expression_link_of c.in-Some.is) (then_on c.expr_type.ensures _ (is_ok _ c.in_ok-current-in-Let.was) (reads c.expr_type.ensures.ready (c.navigate.ensures _))))
+def-returns-in_ok-current-in-Let t c = by_kind _ _ _ _ c.in-Let.is (let_part _ _ _ _ _ _ (ap expression_link_of c.in-Some.is) (then_given c.expr_type.ensures _ c.in_ok-current-in-Let.was (reads c.expr_type.ensures.ready (c.navigate.ensures _))))
 
 pub def-returns-in-Parameter : goal.def-returns-in-Parameter
 unfolding definition_kind_type
@@ -318,11 +318,11 @@ empty-ast_type-requires t c = (omega (arith, c.decreases), c.requires.ready)
 
 pub empty-returns-in_err-x : goal.empty-returns-in_err-x
 unfolding empty_array_type empty_array_in
-empty-returns-in_err-x t c = none_runs _ _ _ c.in_default.is (some_runs _ _ _ (ap type_link_of c.in-Some-expected.is) (then_stop c.ast_type.ensures _ (is_err _ c.in_err-x.was) (is_handed_on _ _ c.from_residual.ensures)))
+empty-returns-in_err-x t c = none_runs _ _ _ c.in_default.is (some_runs _ _ _ (ap type_link_of c.in-Some-expected.is) (then_refused c.ast_type.ensures _ c.in_err-x.was c.from_residual.ensures))
 
 pub empty-returns-in_default-array_of : goal.empty-returns-in_default-array_of
 unfolding empty_array_type empty_array_in
-empty-returns-in_default-array_of t c = none_runs _ _ _ c.in_default.is (some_runs _ _ _ (ap type_link_of c.in-Some-expected.is) (then_on c.ast_type.ensures _ (is_ok _ c.in_ok-x.was) (data_runs _ _ (none_runs _ _ _ (no_array _ (c.array_of.ensures _) c.in_default-array_of.is) (answers c.ast_type.ensures.ready refl)))))
+empty-returns-in_default-array_of t c = none_runs _ _ _ c.in_default.is (some_runs _ _ _ (ap type_link_of c.in-Some-expected.is) (then_given c.ast_type.ensures _ c.in_ok-x.was (data_runs _ _ (none_runs _ _ _ (no_array _ (c.array_of.ensures _) c.in_default-array_of.is) (answers c.ast_type.ensures.ready refl)))))
 
 pub empty-intern_array-requires-then-size-eq0-clause-sound : goal.empty-intern_array-requires-then-size-eq0-clause-sound
 empty-intern_array-requires-then-size-eq0-clause-sound t c = c.ast_type.ensures.ready.sound
@@ -332,11 +332,11 @@ empty-intern_array-requires-then-size-eq0-clause-element_bound t c = element_bel
 
 pub empty-returns-then-size-eq0 : goal.empty-returns-then-size-eq0
 unfolding empty_array_type empty_array_in
-empty-returns-then-size-eq0 t c = none_runs _ _ _ c.in_default.is (some_runs _ _ _ (ap type_link_of c.in-Some-expected.is) (then_on c.ast_type.ensures _ (is_ok _ c.in_ok-x.was) (data_runs _ _ (some_runs _ _ _ (is_array _ (c.array_of.ensures _) c.in-Some-array_of.is) (if_true _ _ _ (sym (eq-eqb _ _ c.if-size-eq0.true)) refl (interns_runs c.ast_type.ensures.ready c.intern_array-then-size-eq0.ensures))))))
+empty-returns-then-size-eq0 t c = none_runs _ _ _ c.in_default.is (some_runs _ _ _ (ap type_link_of c.in-Some-expected.is) (then_given c.ast_type.ensures _ c.in_ok-x.was (data_runs _ _ (some_runs _ _ _ (is_array _ (c.array_of.ensures _) c.in-Some-array_of.is) (if_true _ _ _ (sym (eq-eqb _ _ c.if-size-eq0.true)) refl (interns_runs c.ast_type.ensures.ready c.intern_array-then-size-eq0.ensures))))))
 
 pub empty-returns-else-size-eq0 : goal.empty-returns-else-size-eq0
 unfolding empty_array_type empty_array_in
-empty-returns-else-size-eq0 t c = none_runs _ _ _ c.in_default.is (some_runs _ _ _ (ap type_link_of c.in-Some-expected.is) (then_on c.ast_type.ensures _ (is_ok _ c.in_ok-x.was) (data_runs _ _ (some_runs _ _ _ (is_array _ (c.array_of.ensures _) c.in-Some-array_of.is) (if_false _ _ _ (sym (ne_eqb _ _ c.if-size-eq0.false)) refl (answers c.ast_type.ensures.ready refl))))))
+empty-returns-else-size-eq0 t c = none_runs _ _ _ c.in_default.is (some_runs _ _ _ (ap type_link_of c.in-Some-expected.is) (then_given c.ast_type.ensures _ c.in_ok-x.was (data_runs _ _ (some_runs _ _ _ (is_array _ (c.array_of.ensures _) c.in-Some-array_of.is) (if_false _ _ _ (sym (ne_eqb _ _ c.if-size-eq0.false)) refl (answers c.ast_type.ensures.ready refl))))))
 
 pub expr_type-returns-in_err-next : goal.expr_type-returns-in_err-next
 expr_type-returns-in_err-next t c = entered_stops c.requires c.enter.ensures c.in_err-next.was (is_handed_on _ _ c.from_residual.ensures)
@@ -348,13 +348,13 @@ pub expr_type-origin-requires : goal.expr_type-origin-requires
 expr_type-origin-requires t c = (enter_falls 1 (omega arith) c.enter.ensures c.in_ok-next.was (sym c.decreases), (entered_ready c.requires c.enter.ensures c.in_ok-next.was))
 
 pub expr_type-returns-in_err-expected : goal.expr_type-returns-in_err-expected
-expr_type-returns-in_err-expected t c = entered_runs c.requires c.enter.ensures c.in_ok-next.was (expression_found _ _ _ c.expression_in.ensures c.in-Some.is (then_stop c.origin.ensures _ (is_err _ c.in_err-expected.was) (is_handed_on _ _ c.from_residual-in_err-expected.ensures)))
+expr_type-returns-in_err-expected t c = entered_runs c.requires c.enter.ensures c.in_ok-next.was (expression_found _ _ _ c.expression_in.ensures c.in-Some.is (then_refused c.origin.ensures _ c.in_err-expected.was c.from_residual-in_err-expected.ensures))
 
 pub expr_type-node-requires : goal.expr_type-node-requires
 expr_type-node-requires t c = (enter_falls 4 (omega arith) c.enter.ensures c.in_ok-next.was (sym c.decreases), (c.origin.ensures.ready, short_node c.requires c.expression_in.ensures c.in-Some.is))
 
 pub expr_type-returns : goal.expr_type-returns
-expr_type-returns t c = entered_runs c.requires c.enter.ensures c.in_ok-next.was (expression_found _ _ _ c.expression_in.ensures c.in-Some.is (then_on c.origin.ensures _ (is_ok _ c.in_ok-expected.was) c.node.ensures))
+expr_type-returns t c = entered_runs c.requires c.enter.ensures c.in_ok-next.was (expression_found _ _ _ c.expression_in.ensures c.in-Some.is (then_given c.origin.ensures _ c.in_ok-expected.was c.node.ensures))
 
 pub fields-all-requires : goal.fields-all-requires
 fields-all-requires t c = (omega (arith, c.decreases), (c.requires.ready, c.requires.count_bound))
@@ -377,14 +377,14 @@ fn_signature-returns-in_err-next t c = entered_stops c.requires c.enter.ensures 
 pub fn_signature-returns-in_default : goal.fn_signature-returns-in_default
 fn_signature-returns-in_default t c = entered_runs c.requires c.enter.ensures c.in_ok-next.was (signature_absent (entered_ready c.requires c.enter.ensures c.in_ok-next.was) _ _ c.definition_in.ensures c.in_default.is)
 
-pub fn_signature-returns-in_default-function_parts : goal.fn_signature-returns-in_default-function_parts
-fn_signature-returns-in_default-function_parts t c = entered_runs c.requires c.enter.ensures c.in_ok-next.was (signature_found _ _ c.definition_in.ensures c.in-Some.is (no_function (entered_ready c.requires c.enter.ensures c.in_ok-next.was) _ _ _ _ c.function_parts.ensures c.in_default-function_parts.is))
+pub fn_signature-returns-in_default-kind : goal.fn_signature-returns-in_default-kind
+fn_signature-returns-in_default-kind t c = entered_runs c.requires c.enter.ensures c.in_ok-next.was (signature_found _ _ c.definition_in.ensures c.in-Some.is (no_function (entered_ready c.requires c.enter.ensures c.in_ok-next.was) _ _ _ _ c.in_default-kind.not-Function))
 
 pub fn_signature-sig-requires : goal.fn_signature-sig-requires
-fn_signature-sig-requires t c = (enter_falls 2 (omega arith) c.enter.ensures c.in_ok-next.was (sym c.decreases), ((entered_ready c.requires c.enter.ensures c.in_ok-next.was), short_params c.requires c.definition_in.ensures c.in-Some.is c.function_parts.ensures c.in-Some-function_parts.is))
+fn_signature-sig-requires t c = (enter_falls 2 (omega arith) c.enter.ensures c.in_ok-next.was (sym c.decreases), ((entered_ready c.requires c.enter.ensures c.in_ok-next.was), short_params c.requires c.definition_in.ensures c.in-Some.is c.in-Function.is))
 
 pub fn_signature-returns : goal.fn_signature-returns
-fn_signature-returns t c = entered_runs c.requires c.enter.ensures c.in_ok-next.was (signature_found _ _ c.definition_in.ensures c.in-Some.is (function_parted _ _ _ _ _ _ c.function_parts.ensures c.in-Some-function_parts.is c.sig.ensures))
+fn_signature-returns t c = entered_runs c.requires c.enter.ensures c.in_ok-next.was (signature_found _ _ c.definition_in.ensures c.in-Some.is (function_parted _ _ _ _ _ _ c.in-Function.is c.sig.ensures))
 
 pub index-returns-in_default : goal.index-returns-in_default
 index-returns-in_default t c = same_runs (index_reads _ _ _) (none_runs _ _ _ (ap expression_link_of c.in_default.is) (answers c.requires refl))
@@ -393,16 +393,16 @@ pub index-expr_type-requires : goal.index-expr_type-requires
 index-expr_type-requires t c = (omega (arith, c.decreases), c.requires)
 
 pub index-returns-in_err-t : goal.index-returns-in_err-t
-index-returns-in_err-t t c = same_runs (index_reads _ _ _) (some_runs _ _ _ (ap expression_link_of c.in-Some.is) (then_stop c.expr_type.ensures _ (is_err _ c.in_err-t.was) (is_handed_on _ _ c.from_residual.ensures)))
+index-returns-in_err-t t c = same_runs (index_reads _ _ _) (some_runs _ _ _ (ap expression_link_of c.in-Some.is) (then_refused c.expr_type.ensures _ c.in_err-t.was c.from_residual.ensures))
 
 pub index-only-requires : goal.index-only-requires
 index-only-requires t c = (omega (arith, c.decreases), c.expr_type.ensures.ready)
 
 pub index-returns-in_err-only : goal.index-returns-in_err-only
-index-returns-in_err-only t c = same_runs (index_reads _ _ _) (some_runs _ _ _ (ap expression_link_of c.in-Some.is) (then_on c.expr_type.ensures _ (is_ok _ c.in_ok-t.was) (then_stop c.only.ensures _ (is_err _ c.in_err-only.was) (is_handed_on _ _ c.from_residual-in_err-only.ensures))))
+index-returns-in_err-only t c = same_runs (index_reads _ _ _) (some_runs _ _ _ (ap expression_link_of c.in-Some.is) (then_given c.expr_type.ensures _ c.in_ok-t.was (then_refused c.only.ensures _ c.in_err-only.was c.from_residual-in_err-only.ensures)))
 
 pub index-returns : goal.index-returns
-index-returns t c = same_runs (index_reads _ _ _) (some_runs _ _ _ (ap expression_link_of c.in-Some.is) (then_on c.expr_type.ensures _ (is_ok _ c.in_ok-t.was) (then_on c.only.ensures _ (is_ok _ c.in_ok-only.was) (reads c.only.ensures.ready (c.element_type.ensures _)))))
+index-returns t c = same_runs (index_reads _ _ _) (some_runs _ _ _ (ap expression_link_of c.in-Some.is) (then_given c.expr_type.ensures _ c.in_ok-t.was (then_given c.only.ensures _ c.in_ok-only.was (reads c.only.ensures.ready (c.element_type.ensures _)))))
 
 pub lit-returns-in-Some : goal.lit-returns-in-Some
 unfolding numeric_context_read
@@ -417,11 +417,11 @@ lit-ast_type-requires t c = (omega (arith, c.decreases), c.requires)
 
 pub lit-returns-in_err-x : goal.lit-returns-in_err-x
 unfolding numeric_context_read
-lit-returns-in_err-x t c = same_runs (literal_numbered _ _ _ _ _) (none_runs _ _ _ (sym c.suffix_type.ensures ∙ c.in_default.is) (some_runs _ _ _ (ap type_link_of c.in-Some-expected.is) (then_stop c.ast_type.ensures _ (is_err _ c.in_err-x.was) (is_handed_on _ _ c.from_residual.ensures))))
+lit-returns-in_err-x t c = same_runs (literal_numbered _ _ _ _ _) (none_runs _ _ _ (sym c.suffix_type.ensures ∙ c.in_default.is) (some_runs _ _ _ (ap type_link_of c.in-Some-expected.is) (then_refused c.ast_type.ensures _ c.in_err-x.was c.from_residual.ensures)))
 
 pub lit-returns : goal.lit-returns
 unfolding numeric_context_read
-lit-returns t c = same_runs (literal_numbered _ _ _ _ _) (none_runs _ _ _ (sym c.suffix_type.ensures ∙ c.in_default.is) (some_runs _ _ _ (ap type_link_of c.in-Some-expected.is) (then_on c.ast_type.ensures _ (is_ok _ c.in_ok-x.was) (look_runs _ (numeric_runs c.ast_type.ensures.ready c.numeric_or.ensures)))))
+lit-returns t c = same_runs (literal_numbered _ _ _ _ _) (none_runs _ _ _ (sym c.suffix_type.ensures ∙ c.in_default.is) (some_runs _ _ _ (ap type_link_of c.in-Some-expected.is) (then_given c.ast_type.ensures _ c.in_ok-x.was (look_runs _ (numeric_runs c.ast_type.ensures.ready c.numeric_or.ensures)))))
 
 pub member-returns-in_default : goal.member-returns-in_default
 member-returns-in_default t c = same_runs (member_reads _ _ _) (none_runs _ _ _ (ap expression_link_of c.in_default.is) (answers c.requires refl))
@@ -430,10 +430,10 @@ pub member-expr_type-requires : goal.member-expr_type-requires
 member-expr_type-requires t c = (omega (arith, c.decreases), c.requires)
 
 pub member-returns-in_err-t : goal.member-returns-in_err-t
-member-returns-in_err-t t c = same_runs (member_reads _ _ _) (some_runs _ _ _ (ap expression_link_of c.in-Some.is) (then_stop c.expr_type.ensures _ (is_err _ c.in_err-t.was) (is_handed_on _ _ c.from_residual.ensures)))
+member-returns-in_err-t t c = same_runs (member_reads _ _ _) (some_runs _ _ _ (ap expression_link_of c.in-Some.is) (then_refused c.expr_type.ensures _ c.in_err-t.was c.from_residual.ensures))
 
 pub member-returns : goal.member-returns
-member-returns t c = same_runs (member_reads _ _ _) (some_runs _ _ _ (ap expression_link_of c.in-Some.is) (then_on c.expr_type.ensures _ (is_ok _ c.in_ok-t.was) (reads c.expr_type.ensures.ready c.member_type.ensures)))
+member-returns t c = same_runs (member_reads _ _ _) (some_runs _ _ _ (ap expression_link_of c.in-Some.is) (then_given c.expr_type.ensures _ c.in_ok-t.was (reads c.expr_type.ensures.ready c.member_type.ensures)))
 
 pub named-returns-in_default : goal.named-returns-in_default
 unfolding struct_named
@@ -444,32 +444,32 @@ named-def_type-requires t c = (omega (arith, c.decreases), c.requires)
 
 pub named-returns-in_err-t : goal.named-returns-in_err-t
 unfolding struct_named
-named-returns-in_err-t t c = some_runs _ _ _ (ap definition_link_of c.in-Some.is) (then_stop c.def_type.ensures _ (is_err _ c.in_err-t.was) (is_handed_on _ _ c.from_residual.ensures))
+named-returns-in_err-t t c = some_runs _ _ _ (ap definition_link_of c.in-Some.is) (then_refused c.def_type.ensures _ c.in_err-t.was c.from_residual.ensures)
 
 pub named-returns : goal.named-returns
 unfolding struct_named
-named-returns t c = some_runs _ _ _ (ap definition_link_of c.in-Some.is) (then_on c.def_type.ensures _ (is_ok _ c.in_ok-t.was) (reads c.def_type.ensures.ready (c.struct_or_error.ensures _)))
+named-returns t c = some_runs _ _ _ (ap definition_link_of c.in-Some.is) (then_given c.def_type.ensures _ c.in_ok-t.was (reads c.def_type.ensures.ready (c.struct_or_error.ensures _)))
 
 pub new-only-requires : goal.new-only-requires
 new-only-requires t c = (omega (arith, c.decreases), c.requires)
 
 pub new-returns-in_err-only : goal.new-returns-in_err-only
 unfolding new_type
-new-returns-in_err-only t c = then_stop c.only.ensures _ (is_err _ c.in_err-only.was) (is_handed_on _ _ c.from_residual.ensures)
+new-returns-in_err-only t c = then_refused c.only.ensures _ c.in_err-only.was c.from_residual.ensures
 
 pub new-ast_type-requires : goal.new-ast_type-requires
 new-ast_type-requires t c = (omega (arith, c.decreases), c.only.ensures.ready)
 
 pub new-returns-in_err-element : goal.new-returns-in_err-element
 unfolding new_type
-new-returns-in_err-element t c = then_on c.only.ensures _ (is_ok _ c.in_ok-only.was) (then_stop c.ast_type.ensures _ (is_err _ c.in_err-element.was) (is_handed_on _ _ c.from_residual-in_err-element.ensures))
+new-returns-in_err-element t c = then_given c.only.ensures _ c.in_ok-only.was (then_refused c.ast_type.ensures _ c.in_err-element.was c.from_residual-in_err-element.ensures)
 
 pub new-intern_pointer-requires-clause-element_bound : goal.new-intern_pointer-requires-clause-element_bound
 new-intern_pointer-requires-clause-element_bound t c = type_below c.only.ensures.ready c.ast_type.ensures c.in_ok-element.was
 
 pub new-returns : goal.new-returns
 unfolding new_type
-new-returns t c = then_on c.only.ensures _ (is_ok _ c.in_ok-only.was) (then_on c.ast_type.ensures _ (is_ok _ c.in_ok-element.was) (interns_runs c.ast_type.ensures.ready c.intern_pointer.ensures))
+new-returns t c = then_given c.only.ensures _ c.in_ok-only.was (then_given c.ast_type.ensures _ c.in_ok-element.was (interns_runs c.ast_type.ensures.ready c.intern_pointer.ensures))
 
 pub node-lit-requires : goal.node-lit-requires
 node-lit-requires t c = (omega (arith, c.decreases), c.requires.ready)
@@ -601,11 +601,11 @@ only-expr_type-requires t c = (omega (arith, c.decreases), c.requires)
 
 pub only-returns-in_err-expr_type : goal.only-returns-in_err-expr_type
 unfolding infer_only
-only-returns-in_err-expr_type t c = some_runs _ _ _ (ap expression_link_of c.in-Some.is) (then_stop c.expr_type.ensures _ (is_err _ c.in_err-expr_type.was) (is_handed_on _ _ c.from_residual.ensures))
+only-returns-in_err-expr_type t c = some_runs _ _ _ (ap expression_link_of c.in-Some.is) (then_refused c.expr_type.ensures _ c.in_err-expr_type.was c.from_residual.ensures)
 
 pub only-returns : goal.only-returns
 unfolding infer_only
-only-returns t c = some_runs _ _ _ (ap expression_link_of c.in-Some.is) (then_on c.expr_type.ensures _ (is_ok _ c.in_ok-expr_type.was) (ends c.expr_type.ensures.ready (is_ok _ refl)))
+only-returns t c = some_runs _ _ _ (ap expression_link_of c.in-Some.is) (then_given c.expr_type.ensures _ c.in_ok-expr_type.was (ends c.expr_type.ensures.ready (is_ok _ refl)))
 
 pub origin-returns-in-Some : goal.origin-returns-in-Some
 unfolding return_context assignment_context context_from_origin
@@ -633,11 +633,11 @@ origin-returns-in_default-field_type_expr t c = from_origin _ _ c.args.info c.ar
 
 pub origin-returns-in_err-found-in-StructField : goal.origin-returns-in_err-found-in-StructField
 unfolding return_context assignment_context context_from_origin
-origin-returns-in_err-found-in-StructField t c = from_origin _ _ c.args.info c.args.context _ c.in_default.is c.in-StructField.is (same_runs (field_shaped _ _ _ _) (some_runs _ _ _ (sym c.field_type_expr.ensures.same ∙ ap found_field_type_of c.in-Some-field_type_expr.is) (then_stop c.ast_type.ensures _ (is_err _ c.in_err-found-in-StructField.was) (is_handed_on _ _ c.from_residual.ensures))))
+origin-returns-in_err-found-in-StructField t c = from_origin _ _ c.args.info c.args.context _ c.in_default.is c.in-StructField.is (same_runs (field_shaped _ _ _ _) (some_runs _ _ _ (sym c.field_type_expr.ensures.same ∙ ap found_field_type_of c.in-Some-field_type_expr.is) (then_refused c.ast_type.ensures _ c.in_err-found-in-StructField.was c.from_residual.ensures)))
 
 pub origin-returns-in_ok-found-in-StructField : goal.origin-returns-in_ok-found-in-StructField
 unfolding return_context assignment_context context_from_origin
-origin-returns-in_ok-found-in-StructField t c = from_origin _ _ c.args.info c.args.context _ c.in_default.is c.in-StructField.is (same_runs (field_shaped _ _ _ _) (some_runs _ _ _ (sym c.field_type_expr.ensures.same ∙ ap found_field_type_of c.in-Some-field_type_expr.is) (then_on c.ast_type.ensures _ (is_ok _ c.in_ok-found-in-StructField.was) (knows c.ast_type.ensures.ready refl))))
+origin-returns-in_ok-found-in-StructField t c = from_origin _ _ c.args.info c.args.context _ c.in_default.is c.in-StructField.is (same_runs (field_shaped _ _ _ _) (some_runs _ _ _ (sym c.field_type_expr.ensures.same ∙ ap found_field_type_of c.in-Some-field_type_expr.is) (then_given c.ast_type.ensures _ c.in_ok-found-in-StructField.was (knows c.ast_type.ensures.ready refl))))
 
 pub origin-returns-in_default-argument_definition : goal.origin-returns-in_default-argument_definition
 unfolding return_context assignment_context context_from_origin
@@ -645,7 +645,7 @@ origin-returns-in_default-argument_definition t c = from_origin _ _ c.args.info 
 
 pub origin-returns-in_err-signature-in-Arg : goal.origin-returns-in_err-signature-in-Arg
 unfolding return_context assignment_context context_from_origin
-origin-returns-in_err-signature-in-Arg t c = from_origin _ _ c.args.info c.args.context _ c.in_default.is c.in-Arg.is (same_runs (argument_shaped _ _ _ _) (some_runs _ _ _ (sym (c.argument_definition.ensures.same _) ∙ ap definition_link_of c.in-Some-argument_definition.is) (then_stop c.fn_signature.ensures _ (is_err _ c.in_err-signature-in-Arg.was) (is_handed_on _ _ c.from_residual-in_err-signature-in-Arg.ensures))))
+origin-returns-in_err-signature-in-Arg t c = from_origin _ _ c.args.info c.args.context _ c.in_default.is c.in-Arg.is (same_runs (argument_shaped _ _ _ _) (some_runs _ _ _ (sym (c.argument_definition.ensures.same _) ∙ ap definition_link_of c.in-Some-argument_definition.is) (then_refused c.fn_signature.ensures _ c.in_err-signature-in-Arg.was c.from_residual-in_err-signature-in-Arg.ensures)))
 
 pub origin-returns-in_ok-signature-in-Arg : goal.origin-returns-in_ok-signature-in-Arg
 unfolding return_context assignment_context context_from_origin
@@ -657,11 +657,11 @@ origin-returns-then-not-is_unsuffixed_literal t c = from_origin _ _ c.args.info 
 
 pub origin-returns-in_err-found-in-AssignmentRhs : goal.origin-returns-in_err-found-in-AssignmentRhs
 unfolding return_context assignment_context context_from_origin
-origin-returns-in_err-found-in-AssignmentRhs t c = from_origin _ _ c.args.info c.args.context _ c.in_default.is c.in-AssignmentRhs.is (if_true _ _ _ (c.is_unsuffixed_literal.ensures.same _ _) (c.if-not-is_unsuffixed_literal.false) (then_stop c.expr_type.ensures _ (is_err _ c.in_err-found-in-AssignmentRhs.was) (is_handed_on _ _ c.from_residual-in_err-found-in-AssignmentRhs.ensures)))
+origin-returns-in_err-found-in-AssignmentRhs t c = from_origin _ _ c.args.info c.args.context _ c.in_default.is c.in-AssignmentRhs.is (if_true _ _ _ (c.is_unsuffixed_literal.ensures.same _ _) (c.if-not-is_unsuffixed_literal.false) (then_refused c.expr_type.ensures _ c.in_err-found-in-AssignmentRhs.was c.from_residual-in_err-found-in-AssignmentRhs.ensures))
 
 pub origin-returns-in_ok-found-in-AssignmentRhs : goal.origin-returns-in_ok-found-in-AssignmentRhs
 unfolding return_context assignment_context context_from_origin
-origin-returns-in_ok-found-in-AssignmentRhs t c = from_origin _ _ c.args.info c.args.context _ c.in_default.is c.in-AssignmentRhs.is (if_true _ _ _ (c.is_unsuffixed_literal.ensures.same _ _) (c.if-not-is_unsuffixed_literal.false) (then_on c.expr_type.ensures _ (is_ok _ c.in_ok-found-in-AssignmentRhs.was) (knows c.expr_type.ensures.ready refl)))
+origin-returns-in_ok-found-in-AssignmentRhs t c = from_origin _ _ c.args.info c.args.context _ c.in_default.is c.in-AssignmentRhs.is (if_true _ _ _ (c.is_unsuffixed_literal.ensures.same _ _) (c.if-not-is_unsuffixed_literal.false) (then_given c.expr_type.ensures _ c.in_ok-found-in-AssignmentRhs.was (knows c.expr_type.ensures.ready refl)))
 
 pub origin-returns-in_default-first_function_around : goal.origin-returns-in_default-first_function_around
 unfolding return_context assignment_context context_from_origin
@@ -669,7 +669,7 @@ origin-returns-in_default-first_function_around t c = from_origin _ _ c.args.inf
 
 pub origin-returns-in_err-signature-in-ReturnExpr : goal.origin-returns-in_err-signature-in-ReturnExpr
 unfolding return_context assignment_context context_from_origin
-origin-returns-in_err-signature-in-ReturnExpr t c = from_origin _ _ c.args.info c.args.context _ c.in_default.is c.in-ReturnExpr.is (some_runs _ _ _ (sym (c.first_function_around.ensures _) ∙ ap definition_link_of c.in-Some-first_function_around.is) (then_stop c.fn_signature-in-ReturnExpr.ensures _ (is_err _ c.in_err-signature-in-ReturnExpr.was) (is_handed_on _ _ c.from_residual-in_err-signature-in-ReturnExpr.ensures)))
+origin-returns-in_err-signature-in-ReturnExpr t c = from_origin _ _ c.args.info c.args.context _ c.in_default.is c.in-ReturnExpr.is (some_runs _ _ _ (sym (c.first_function_around.ensures _) ∙ ap definition_link_of c.in-Some-first_function_around.is) (then_refused c.fn_signature-in-ReturnExpr.ensures _ c.in_err-signature-in-ReturnExpr.was c.from_residual-in_err-signature-in-ReturnExpr.ensures))
 
 pub origin-returns-in_ok-signature-in-ReturnExpr : goal.origin-returns-in_ok-signature-in-ReturnExpr
 unfolding return_context assignment_context context_from_origin
@@ -688,14 +688,14 @@ rep-expr_type-requires t c = (omega (arith, c.decreases), c.requires)
 
 pub rep-returns-in_err-t : goal.rep-returns-in_err-t
 unfolding array_repeat_type
-rep-returns-in_err-t t c = repeated _ _ _ _ (c.element_hint-hint.ensures _) (some_runs _ _ _ (ap expression_link_of (was_there c.ok_or.ensures.ok_part c.in_ok-e.was)) (then_stop c.expr_type.ensures _ (is_err _ c.in_err-t.was) (is_handed_on _ _ c.from_residual-in_err-t.ensures)))
+rep-returns-in_err-t t c = repeated _ _ _ _ (c.element_hint-hint.ensures _) (child_runs _ _ c.ok_or.ensures.ok_part c.in_ok-e.was (then_refused c.expr_type.ensures _ c.in_err-t.was c.from_residual-in_err-t.ensures))
 
 pub rep-intern_array-requires-clause-element_bound : goal.rep-intern_array-requires-clause-element_bound
 rep-intern_array-requires-clause-element_bound t c = expression_below c.requires (hinted c.requires _ _ (c.element_hint-hint.ensures _)) c.expr_type.ensures c.in_ok-t.was
 
 pub rep-returns : goal.rep-returns
 unfolding array_repeat_type
-rep-returns t c = repeated _ _ _ _ (c.element_hint-hint.ensures _) (some_runs _ _ _ (ap expression_link_of (was_there c.ok_or.ensures.ok_part c.in_ok-e.was)) (then_on c.expr_type.ensures _ (is_ok _ c.in_ok-t.was) (interns_runs c.expr_type.ensures.ready c.intern_array.ensures)))
+rep-returns t c = repeated _ _ _ _ (c.element_hint-hint.ensures _) (child_runs _ _ c.ok_or.ensures.ok_part c.in_ok-e.was (then_given c.expr_type.ensures _ c.in_ok-t.was (interns_runs c.expr_type.ensures.ready c.intern_array.ensures)))
 
 pub same-loop-i-init : goal.same-loop-i-init
 same-loop-i-init t c = leads_from _ (ap (all_same_type _ _) (links_behind_first _ _ _ c.requires.le_count)) c.requires.ready
@@ -728,7 +728,7 @@ pub sig-ast_type-requires : goal.sig-ast_type-requires
 sig-ast_type-requires t c = (omega (arith, c.decreases), c.all.ensures.runs.ready)
 
 pub sig-returns-in_err-x : goal.sig-returns-in_err-x
-sig-returns-in_err-x t c = same_runs (signature_listed _ _ _ _ _ _ _ _) (then_on c.all.ensures.runs _ (is_ok _ c.in_ok-n.was) (then_stop c.ast_type.ensures _ (is_err _ c.in_err-x.was) (is_handed_on _ _ c.from_residual-in_err-x.ensures)))
+sig-returns-in_err-x t c = same_runs (signature_listed _ _ _ _ _ _ _ _) (then_on c.all.ensures.runs _ (is_ok _ c.in_ok-n.was) (then_refused c.ast_type.ensures _ c.in_err-x.was c.from_residual-in_err-x.ensures))
 
 pub sig-intern_function-requires-clause-all_below : goal.sig-intern_function-requires-clause-all_below
 sig-intern_function-requires-clause-all_below t c = later_all_below (take c.in_ok-n.n c.all.new.out) c.ast_type.ensures.grows (collected_below c.requires.ready _ _ _ _ c.all.ensures.runs c.in_ok-n.was)
@@ -737,10 +737,10 @@ pub sig-intern_function-requires-clause-return_type_bound : goal.sig-intern_func
 sig-intern_function-requires-clause-return_type_bound t c = type_below c.all.ensures.runs.ready c.ast_type.ensures c.in_ok-x.was
 
 pub sig-returns-in_err-f : goal.sig-returns-in_err-f
-sig-returns-in_err-f t c = same_runs (signature_listed _ _ _ _ _ _ _ _) (then_on c.all.ensures.runs _ (is_ok _ c.in_ok-n.was) (then_on c.ast_type.ensures _ (is_ok _ c.in_ok-x.was) (then_stop (interns_runs c.ast_type.ensures.ready c.intern_function.ensures) _ (is_err _ c.in_err-f.was) (is_handed_on _ _ c.from_residual-in_err-f.ensures))))
+sig-returns-in_err-f t c = same_runs (signature_listed _ _ _ _ _ _ _ _) (then_on c.all.ensures.runs _ (is_ok _ c.in_ok-n.was) (then_given c.ast_type.ensures _ c.in_ok-x.was (then_stop (interns_runs c.ast_type.ensures.ready c.intern_function.ensures) _ (is_err _ c.in_err-f.was) (is_handed_on _ _ c.from_residual-in_err-f.ensures))))
 
 pub sig-returns : goal.sig-returns
-sig-returns t c = same_runs (signature_listed _ _ _ _ _ _ _ _) (then_on c.all.ensures.runs _ (is_ok _ c.in_ok-n.was) (then_on c.ast_type.ensures _ (is_ok _ c.in_ok-x.was) (then_on (interns_runs c.ast_type.ensures.ready c.intern_function.ensures) _ (is_ok _ c.in_ok-f.was) (knows (interns_runs c.ast_type.ensures.ready c.intern_function.ensures).ready refl))))
+sig-returns t c = same_runs (signature_listed _ _ _ _ _ _ _ _) (then_on c.all.ensures.runs _ (is_ok _ c.in_ok-n.was) (then_given c.ast_type.ensures _ c.in_ok-x.was (then_on (interns_runs c.ast_type.ensures.ready c.intern_function.ensures) _ (is_ok _ c.in_ok-f.was) (knows (interns_runs c.ast_type.ensures.ready c.intern_function.ensures).ready refl))))
 
 pub struct_data-returns-in_err-next : goal.struct_data-returns-in_err-next
 struct_data-returns-in_err-next t c = entered_stops c.requires c.enter.ensures c.in_err-next.was (is_handed_on _ _ c.from_residual.ensures)
@@ -748,14 +748,14 @@ struct_data-returns-in_err-next t c = entered_stops c.requires c.enter.ensures c
 pub struct_data-returns-in_default : goal.struct_data-returns-in_default
 struct_data-returns-in_default t c = entered_runs c.requires c.enter.ensures c.in_ok-next.was (struct_absent (entered_ready c.requires c.enter.ensures c.in_ok-next.was) _ _ c.definition_in.ensures c.in_default.is)
 
-pub struct_data-returns-in_default-struct_fields : goal.struct_data-returns-in_default-struct_fields
-struct_data-returns-in_default-struct_fields t c = entered_runs c.requires c.enter.ensures c.in_ok-next.was (struct_found _ _ c.definition_in.ensures c.in-Some.is (no_struct (entered_ready c.requires c.enter.ensures c.in_ok-next.was) _ _ _ _ c.struct_fields.ensures c.in_default-struct_fields.is))
+pub struct_data-returns-in_default-kind : goal.struct_data-returns-in_default-kind
+struct_data-returns-in_default-kind t c = entered_runs c.requires c.enter.ensures c.in_ok-next.was (struct_found _ _ c.definition_in.ensures c.in-Some.is (no_struct (entered_ready c.requires c.enter.ensures c.in_ok-next.was) _ _ _ _ c.in_default-kind.not-Struct))
 
 pub struct_data-fields-requires : goal.struct_data-fields-requires
-struct_data-fields-requires t c = (enter_falls 2 (omega arith) c.enter.ensures c.in_ok-next.was (sym c.decreases), ((entered_ready c.requires c.enter.ensures c.in_ok-next.was), short_fields c.requires c.definition_in.ensures c.in-Some.is c.struct_fields.ensures c.in-Some-struct_fields.is))
+struct_data-fields-requires t c = (enter_falls 2 (omega arith) c.enter.ensures c.in_ok-next.was (sym c.decreases), ((entered_ready c.requires c.enter.ensures c.in_ok-next.was), short_fields c.requires c.definition_in.ensures c.in-Some.is c.in-Struct.is))
 
 pub struct_data-returns : goal.struct_data-returns
-struct_data-returns t c = entered_runs c.requires c.enter.ensures c.in_ok-next.was (struct_found _ _ c.definition_in.ensures c.in-Some.is (struct_fielded _ _ _ _ _ c.struct_fields.ensures c.in-Some-struct_fields.is c.fields.ensures))
+struct_data-returns t c = entered_runs c.requires c.enter.ensures c.in_ok-next.was (struct_found _ _ c.definition_in.ensures c.in-Some.is (struct_fielded _ _ _ _ _ c.in-Struct.is c.fields.ensures))
 
 pub tidx-returns-in_err-x : goal.tidx-returns-in_err-x
 tidx-returns-in_err-x t c = same_runs (tuple_index_reads _ _ _) (none_runs _ _ _ (ap expression_link_of (was_missing c.ok_or.ensures.ok_part c.in_err-x.was)) (missing_runs c.requires _ Refusal.MissingChild c.ok_or.ensures.value c.in_err-x.was c.from_residual.ensures))
@@ -764,10 +764,10 @@ pub tidx-expr_type-requires : goal.tidx-expr_type-requires
 tidx-expr_type-requires t c = (omega (arith, c.decreases), c.requires)
 
 pub tidx-returns-in_err-t : goal.tidx-returns-in_err-t
-tidx-returns-in_err-t t c = same_runs (tuple_index_reads _ _ _) (some_runs _ _ _ (ap expression_link_of (was_there c.ok_or.ensures.ok_part c.in_ok-x.was)) (then_stop c.expr_type.ensures _ (is_err _ c.in_err-t.was) (is_handed_on _ _ c.from_residual-in_err-t.ensures)))
+tidx-returns-in_err-t t c = same_runs (tuple_index_reads _ _ _) (child_runs _ _ c.ok_or.ensures.ok_part c.in_ok-x.was (then_refused c.expr_type.ensures _ c.in_err-t.was c.from_residual-in_err-t.ensures))
 
 pub tidx-returns : goal.tidx-returns
-tidx-returns t c = same_runs (tuple_index_reads _ _ _) (some_runs _ _ _ (ap expression_link_of (was_there c.ok_or.ensures.ok_part c.in_ok-x.was)) (then_on c.expr_type.ensures _ (is_ok _ c.in_ok-t.was) (reads c.expr_type.ensures.ready (c.tuple_element.ensures _))))
+tidx-returns t c = same_runs (tuple_index_reads _ _ _) (child_runs _ _ c.ok_or.ensures.ok_part c.in_ok-x.was (then_given c.expr_type.ensures _ c.in_ok-t.was (reads c.expr_type.ensures.ready (c.tuple_element.ensures _))))
 
 pub tup-all-requires : goal.tup-all-requires
 tup-all-requires t c = (omega (arith, c.decreases), (c.requires.ready, c.requires.count_bound))
@@ -815,7 +815,7 @@ ty-tup-requires t c = (omega (arith, c.decreases), (c.requires.ready, subst Shor
 
 pub ty-returns-in_err-element-in-Pointer : goal.ty-returns-in_err-element-in-Pointer
 unfolding type_expr_type tuple_expr_type
-ty-returns-in_err-element-in-Pointer t c = by_type_expr _ _ _ c.in-Pointer.is (then_stop c.ast_type.ensures _ (is_err _ c.in_err-element-in-Pointer.was) (is_handed_on _ _ c.from_residual.ensures))
+ty-returns-in_err-element-in-Pointer t c = by_type_expr _ _ _ c.in-Pointer.is (then_refused c.ast_type.ensures _ c.in_err-element-in-Pointer.was c.from_residual.ensures)
 
 pub ty-intern_pointer-requires-clause-element_bound : goal.ty-intern_pointer-requires-clause-element_bound
 ty-intern_pointer-requires-clause-element_bound t c = type_below c.requires.ready c.ast_type.ensures c.in_ok-element-in-Pointer.was
@@ -838,7 +838,7 @@ ty-returns-in-Custom t c = by_type_expr _ _ _ c.in-Custom.is (same_runs (custom_
 
 pub ty-returns-in_ok-element-in-Pointer : goal.ty-returns-in_ok-element-in-Pointer
 unfolding type_expr_type tuple_expr_type
-ty-returns-in_ok-element-in-Pointer t c = by_type_expr _ _ _ c.in-Pointer.is (then_on c.ast_type.ensures _ (is_ok _ c.in_ok-element-in-Pointer.was) (interns_runs c.ast_type.ensures.ready c.intern_pointer.ensures))
+ty-returns-in_ok-element-in-Pointer t c = by_type_expr _ _ _ c.in-Pointer.is (then_given c.ast_type.ensures _ c.in_ok-element-in-Pointer.was (interns_runs c.ast_type.ensures.ready c.intern_pointer.ensures))
 
 pub ty-returns-in-Tuple : goal.ty-returns-in-Tuple
 unfolding type_expr_type tuple_expr_type
@@ -857,11 +857,11 @@ un-expr_type-requires t c = (omega (arith, c.decreases), c.requires)
 
 pub un-returns-in_err-t : goal.un-returns-in_err-t
 unfolding unary_type
-un-returns-in_err-t t c = some_runs _ _ _ (ap expression_link_of (was_there c.ok_or.ensures.ok_part c.in_ok-e.was)) (then_stop c.expr_type.ensures _ (is_err _ c.in_err-t.was) (is_handed_on _ _ c.from_residual-in_err-t.ensures))
+un-returns-in_err-t t c = child_runs _ _ c.ok_or.ensures.ok_part c.in_ok-e.was (then_refused c.expr_type.ensures _ c.in_err-t.was c.from_residual-in_err-t.ensures)
 
 pub un-returns : goal.un-returns
 unfolding unary_type
-un-returns t c = some_runs _ _ _ (ap expression_link_of (was_there c.ok_or.ensures.ok_part c.in_ok-e.was)) (then_on c.expr_type.ensures _ (is_ok _ c.in_ok-t.was) (look_runs _ (answers c.expr_type.ensures.ready c.unary_result.ensures)))
+un-returns t c = child_runs _ _ c.ok_or.ensures.ok_part c.in_ok-e.was (then_given c.expr_type.ensures _ c.in_ok-t.was (look_runs _ (answers c.expr_type.ensures.ready c.unary_result.ensures)))
 
 pub var-ast_type-requires : goal.var-ast_type-requires
 var-ast_type-requires t c = (omega (arith, c.decreases), c.requires)

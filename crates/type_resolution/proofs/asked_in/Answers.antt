@@ -1,5 +1,5 @@
 -- `type_resolution::asked_in` meets its contract. Assumes nothing.
-use Rattle.type_resolution.proofs.Running.{is_ok, is_err, is_handed_on, then_on, then_stop}
+use Rattle.type_resolution.proofs.Running.{then_given, then_refused}
 use Rattle.type_resolution.proofs.Finding.{in_context_found, in_context_absent}
 use Rattle.type_resolution.proofs.asked_in.Goals as goal
 
@@ -8,8 +8,8 @@ returns-in_default c = in_context_absent c.requires _ _ _ c.expression_in.ensure
 
 pub returns-in_err-context : goal.returns-in_err-context
 returns-in_err-context c =
-    in_context_found _ _ _ c.expression_in.ensures c.in-Some.is (then_stop c.ast_type.ensures _ (is_err _ c.in_err-context.was) (is_handed_on _ _ c.from_residual.ensures))
+    in_context_found _ _ _ c.expression_in.ensures c.in-Some.is (then_refused c.ast_type.ensures _ c.in_err-context.was c.from_residual.ensures)
 
 pub returns : goal.returns
 returns c =
-    in_context_found _ _ _ c.expression_in.ensures c.in-Some.is (then_on c.ast_type.ensures _ (is_ok _ c.in_ok-context.was) c.expr_type.ensures)
+    in_context_found _ _ _ c.expression_in.ensures c.in-Some.is (then_given c.ast_type.ensures _ c.in_ok-context.was c.expr_type.ensures)
