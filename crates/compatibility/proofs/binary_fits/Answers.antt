@@ -9,7 +9,7 @@ use Rattle.compatibility.proofs.binary_fits.Goals.{then-eq, else-eq}
 pub returns-then-compare : goal.returns-then-compare
 returns-then-compare c = elim c.if-eq.branch [
   | then-eq w ↦
-      go_on _ _ _ (sym (c.eq.ensures ∙ same_binary c.args.row.now.0 c.args.op) ∙ w.if-eq.true)
+      go_on _ _ _ (sym (c.eq.ensures ∙ same_binary c.args.row.now.op c.args.op) ∙ w.if-eq.true)
       (go_on _ _ _ (sym w.compare.ensures ∙ sym w.value-is ∙ c.if-compare.true) c.compare-then-compare.ensures)
   | else-eq w ↦
       absurd (true≢false (sym c.if-compare.true ∙ w.value-is ∙ w.if-eq.false))
@@ -18,8 +18,8 @@ returns-then-compare c = elim c.if-eq.branch [
 pub returns-else-compare : goal.returns-else-compare
 returns-else-compare c = elim c.if-eq.branch [
   | then-eq w ↦
-      c.if-compare.false ∙ go_on _ _ _ (sym (c.eq.ensures ∙ same_binary c.args.row.now.0 c.args.op) ∙ w.if-eq.true)
+      c.if-compare.false ∙ go_on _ _ _ (sym (c.eq.ensures ∙ same_binary c.args.row.now.op c.args.op) ∙ w.if-eq.true)
       (stop _ _ (sym w.compare.ensures ∙ sym w.value-is ∙ c.if-compare.false))
   | else-eq w ↦
-      c.if-compare.false ∙ stop _ _ (sym (c.eq.ensures ∙ same_binary c.args.row.now.0 c.args.op) ∙ w.if-eq.false)
+      c.if-compare.false ∙ stop _ _ (sym (c.eq.ensures ∙ same_binary c.args.row.now.op c.args.op) ∙ w.if-eq.false)
 ]
