@@ -27,6 +27,8 @@ fn is_error_or_unknown(row: TypeData) -> bool
     matches!(row, TypeData::Error | TypeData::Unknown)
 }
 
+// The store is a slice of words: what it remembers is of the table beside it, and a struct of both would have to promise that the table stays.
+
 // Whether a place of the store is marked. A word holds the marks of 32 places, a bit for each.
 fn is_marked(seen: &[u32], at: usize) -> bool
     requires { at < 32 * length seen.now }
@@ -80,7 +82,16 @@ fn compatible_rows(types: &Types, seen: &mut [u32], actual: u32, expected: u32) 
     let e = type_table::data(words, expected);
     match (a, e) {
         (TypeData::Pointer(x), TypeData::Pointer(y)) => compatible(types, seen, x, y),
-        (TypeData::FixedArray(x, m), TypeData::FixedArray(y, n)) => {
+        (
+            TypeData::FixedArray {
+                element: x,
+                size: m,
+            },
+            TypeData::FixedArray {
+                element: y,
+                size: n,
+            },
+        ) => {
             if m != n {
                 return false;
             }
@@ -109,14 +120,11 @@ fn compatible_lists(
     ensures value { result ≡ lists_compatible (table_of types.now.file.now types.now.words.now) left.now right.now }
     ensures remembers_2 { Remembers types.now.file.now types.now.words.now seen.new }
 {
-    let count = left.len();
-    if count != right.len() {
+    if left.len() != right.len() {
         return false;
     }
-    for i in 0..count {
-        let x = left[i];
-        let y = right[i];
-        if !compatible(types, seen, x, y) {
+    for (x, y) in left.iter().zip(right) {
+        if !compatible(types, seen, *x, *y) {
             return false;
         }
     }
@@ -133,7 +141,8 @@ fn compare_with_store(types: &Types, actual: u32, expected: u32) -> bool
     compatible(types, &mut seen, actual, expected)
 }
 
-// The same. Only two tuples, two arrays or two pointers are compared with a store.
+// The same. Only two tuples, two arrays or two pointers are compared with a store. Error and unknown are tested before, and not in the last arm as in
+// `compatible_rows`: of an arm with more patterns than one the proof doesn't know which holds, so not that the numbers are of the table.
 fn compare(types: &Types, actual: u32, expected: u32) -> bool
     ensures { result ≡ are_types_compatible (table_of types.now.file.now types.now.words.now) actual expected }
 {
@@ -147,7 +156,7 @@ fn compare(types: &Types, actual: u32, expected: u32) -> bool
     }
     match (a, e) {
         (TypeData::Tuple(_), TypeData::Tuple(_))
-        | (TypeData::FixedArray(_, _), TypeData::FixedArray(_, _))
+        | (TypeData::FixedArray { .. }, TypeData::FixedArray { .. })
         | (TypeData::Pointer(_), TypeData::Pointer(_)) => {
             compare_with_store(types, actual, expected)
         }
@@ -155,7 +164,8 @@ fn compare(types: &Types, actual: u32, expected: u32) -> bool
     }
 }
 
-// Whether a type may stand where another is expected.
+// Whether a type may stand where another is expected. This and the two functions of operators take the file and the words, and not a `Types`: the caller
+// lends the words on as `&mut` between its calls, so it would make one at each call.
 pub fn are_types_compatible(file: &[u8], types: &[u32], actual: u32, expected: u32) -> bool
     requires sound { Sound file.now types.now }
     requires table_ok { TableOk (table_of file.now types.now) }

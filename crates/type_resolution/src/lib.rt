@@ -412,15 +412,7 @@ fn fields(
 {
     let mut elements = [0u32; 2048];
     let n = all(index, types, demands, depth, m, s, list, &mut elements)?;
-    let t = type_table::intern_struct(
-        index.file,
-        index.words,
-        types,
-        m,
-        d.0,
-        list,
-        &elements[..n],
-    )?;
+    let t = type_table::intern_struct(index, types, m, d.0, list, &elements[..n])?;
     Ok(Some(t))
 }
 
@@ -783,11 +775,11 @@ fn call(
         return Ok(type_table::ERROR);
     };
     let t = expr_type(index, types, demands, depth, m, e, None)?;
-    let Some((params, result)) = type_table::signature_of(types, t) else {
+    let Some(signature) = type_table::signature_of(types, t) else {
         return Ok(type_table::ERROR);
     };
-    args(index, types, demands, depth, m, params, list)?;
-    Ok(result)
+    args(index, types, demands, depth, m, signature.params, list)?;
+    Ok(signature.return_type)
 }
 
 // Each argument of a call that is there, with its parameter as context.
@@ -979,11 +971,11 @@ fn empty(
         return Ok(type_table::ERROR);
     };
     let x = ast_type(index, types, demands, depth, m, t, s)?;
-    let Some((element, size)) = type_table::array_of(types, x) else {
+    let Some(array) = type_table::array_of(types, x) else {
         return Ok(type_table::ERROR);
     };
-    if size == 0 {
-        type_table::intern_array(index.file, types, element, 0)
+    if array.size == 0 {
+        type_table::intern_array(index.file, types, array.element, 0)
     } else {
         Ok(type_table::ERROR)
     }

@@ -56,11 +56,11 @@ pub fn put_decimal(out: &mut [u8], at: usize, n: u64) -> usize
     ensures { Wrote (decimal n) at out.old out.new result }
 {
     if n < 10 {
-        out[at] = (48 + n) as u8;
+        out[at] = b'0' + (n as u8);
         return at + 1;
     }
     let next = put_decimal(out, at, n / 10);
-    out[next] = (48 + n % 10) as u8;
+    out[next] = b'0' + ((n % 10) as u8);
     next + 1
 }
 
@@ -104,16 +104,24 @@ fn measure_type(types: &Types, t: u32, used: usize) -> usize
             measure_list(types, t, list, capped(used + 2))
         }
         TypeData::Pointer(element) => measure_type(types, element, capped(used + 5)),
-        TypeData::FixedArray(element, size) => {
+        TypeData::FixedArray { element, size } => {
             let digits = decimal_length(size);
             measure_type(types, element, capped(used + 3 + digits))
         }
-        TypeData::Struct(home, definition, _) => {
+        TypeData::Struct {
+            home,
+            definition,
+            ..
+        } => {
             let first = decimal_length(home as u64);
             let second = decimal_length(definition as u64);
             capped(used + 8 + first + second)
         }
-        TypeData::Function(home, definition, _, _) => {
+        TypeData::Function {
+            home,
+            definition,
+            ..
+        } => {
             let first = decimal_length(home as u64);
             let second = decimal_length(definition as u64);
             capped(used + 4 + first + second)
@@ -128,15 +136,12 @@ fn measure_list(types: &Types, holder: u32, list: &[u32], used: usize) -> usize
     requires all_below { AllBelow holder list.now }
     ensures { result ≡ min 4097 (used + length (comma_texts (type_text (table_of types.now.file.now types.now.words.now)) list.now)) }
 {
-    if list.is_empty() {
+    let Some((first, rest)) = list.split_first() else {
         return used;
-    }
-    let first = list[0];
-    let mut next = measure_type(types, first, used);
-    let count = list.len();
-    for i in 1..count {
-        let t = list[i];
-        next = measure_type(types, t, capped(next + 1));
+    };
+    let mut next = measure_type(types, *first, used);
+    for t in rest {
+        next = measure_type(types, *t, capped(next + 1));
     }
     next
 }
@@ -167,13 +172,17 @@ fn write_type(types: &Types, t: u32, out: &mut [u8], at: usize) -> usize
             write_tuple(types, t, list, out, at)
         }
         TypeData::Pointer(element) => write_pointer(types, element, out, at),
-        TypeData::FixedArray(element, size) => write_array(types, element, size, out, at),
-        TypeData::Struct(home, definition, _) => put_definition(
-            out, at, b"struct:", home, definition,
-        ),
-        TypeData::Function(home, definition, _, _) => put_definition(
-            out, at, b"fn:", home, definition,
-        ),
+        TypeData::FixedArray { element, size } => write_array(types, element, size, out, at),
+        TypeData::Struct {
+            home,
+            definition,
+            ..
+        } => put_definition(out, at, b"struct:", home, definition),
+        TypeData::Function {
+            home,
+            definition,
+            ..
+        } => put_definition(out, at, b"fn:", home, definition),
     }
 }
 
@@ -217,12 +226,10 @@ fn write_list(types: &Types, holder: u32, list: &[u32], out: &mut [u8], at: usiz
     requires list_in_bounds { at + length (comma_texts (type_text (table_of types.now.file.now types.now.words.now)) list.now) ≤ length out.old }
     ensures { Wrote (comma_texts (type_text (table_of types.now.file.now types.now.words.now)) list.now) at out.old out.new result }
 {
-    if list.is_empty() {
+    let Some((first, rest)) = list.split_first() else {
         return at;
-    }
-    let first = list[0];
-    let next = write_type(types, first, out, at);
-    let rest = &list[1..];
+    };
+    let next = write_type(types, *first, out, at);
     write_rest(types, holder, rest, out, next)
 }
 

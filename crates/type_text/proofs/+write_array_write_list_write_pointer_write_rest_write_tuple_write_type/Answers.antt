@@ -1,16 +1,16 @@
 -- The text of a type written by its kind: an element has a lower number than its holder, so the calls end. Assumes nothing.
-use Prim.Native.Nat.{◌+◌, ◌-◌, zero-le}
-use mathlib.Core.Path.{◌≡◌, refl, sym, ap, ◌∙◌}
+use Prim.Native.Nat.{◌+◌, zero-le}
+use Rattle.type_table.proofs.Laws.{below_first, below_rest}
+use mathlib.Core.Path.{refl, sym, ap, ◌∙◌}
 use mathlib.Core.List.{◌++◌}
-use borrow.Author.Tests.{eqb-true, eqb-false}
 use native.Mathlib.Omega.{arith}
-use lib.ListN.{length, get_or, take, drop}
+use lib.ListN.{length, get_or, take}
 use Rattle.model.specs.Common.{bytes}
 use Rattle.resolution.specs.Answer.{decimal, comma_texts, type_text}
 use Rattle.type_table.specs.Layout.{table_of}
 use Rattle.type_text.specs.Text.{comma_rest, tuple_text, pointer_text, array_text}
 use Rattle.type_text.proofs.Writing.{wrote_none, wrote_then, wrote_as}
-use Rattle.type_text.proofs.Texts.{felt_is, bool_is, u32_is, unknown_is, error_is, tuple_is, pointer_is, array_is, struct_is, function_is, tuple_below, pointer_below, array_below, comma_none, comma_split, split_length, tail_is, tail_below, rest_none, rest_step, rest_step_length, rest_upto, tuple_text_length, pointer_text_length, array_text_length}
+use Rattle.type_text.proofs.Texts.{felt_is, bool_is, u32_is, unknown_is, error_is, tuple_is, pointer_is, array_is, struct_is, function_is, tuple_below, pointer_below, array_below, comma_none, comma_split, split_length, rest_none, rest_step, rest_step_length, rest_upto, tuple_text_length, pointer_text_length, array_text_length}
 use Rattle.type_text.proofs.+write_array_write_list_write_pointer_write_rest_write_tuple_write_type.Goals as goal
 
 pub write_array-put-first-requires : goal.write_array-put-first-requires
@@ -40,24 +40,24 @@ write_array-returns t c = wrote_then (bytes "[") (type_text (table_of c.args.typ
     (wrote_then (bytes ";") (decimal c.args.size ++ bytes "]") _ _ _ _ _ _ (omega (arith, c.requires.size_in_bounds, array_text_length (type_text (table_of c.args.types.now.file.now c.args.types.now.words.now)) c.args.element c.args.size, c.put-first.ensures.next, c.put-first.auto.out, c.write_type-second.ensures.next, c.write_type-second.auto.out)) c.put-third.ensures
     (wrote_then (decimal c.args.size) (bytes "]") _ _ _ _ _ _ (omega (arith, c.requires.size_in_bounds, array_text_length (type_text (table_of c.args.types.now.file.now c.args.types.now.words.now)) c.args.element c.args.size, c.put-first.ensures.next, c.put-first.auto.out, c.write_type-second.ensures.next, c.write_type-second.auto.out, c.put-third.ensures.next, c.put-third.auto.out)) c.put_decimal-fourth.ensures c.put.ensures)))
 
-pub write_list-returns-then-is_empty : goal.write_list-returns-then-is_empty
-write_list-returns-then-is_empty t c = wrote_as _ _ _ _ _ _ (comma_none (type_text (table_of c.args.types.now.file.now c.args.types.now.words.now)) c.args.list.now (eqb-true _ _ (sym c.is_empty.ensures ∙ c.if-is_empty.true))) (wrote_none c.args.out.now c.args.at)
+pub write_list-returns-in_default : goal.write_list-returns-in_default
+write_list-returns-in_default t c = wrote_as _ _ _ _ _ _ (comma_none (type_text (table_of c.args.types.now.file.now c.args.types.now.words.now)) c.args.list.now c.in_default.ensures.cases) (wrote_none c.args.out.now c.args.at)
 
 pub write_list-write_type-next-requires : goal.write_list-write_type-next-requires
 write_list-write_type-next-requires t c =
-    let some : length c.args.list.now ≡ 0 → ⊥ = eqb-false _ _ (sym c.is_empty.ensures ∙ c.if-is_empty.false) in
-    (omega (arith, c.requires.all_below 0 (omega (arith, some))), omega (arith, c.requires.list_in_bounds, split_length (type_text (table_of c.args.types.now.file.now c.args.types.now.words.now)) c.args.list.now (omega (arith, some))))
+    let is = c.in-Some.ensures.cases.0 in
+    (omega (arith, below_first _ is c.requires.all_below), omega (arith, c.requires.list_in_bounds, split_length (type_text (table_of c.args.types.now.file.now c.args.types.now.words.now)) c.args.list.now _ is))
 
 pub write_list-write_rest-requires : goal.write_list-write_rest-requires
 write_list-write_rest-requires t c =
-    let some : length c.args.list.now ≡ 0 → ⊥ = eqb-false _ _ (sym c.is_empty.ensures ∙ c.if-is_empty.false) in
-    (omega (arith, some), (tail_below c.args.holder c.args.list.now c.requires.all_below, omega (arith, c.requires.list_in_bounds, split_length (type_text (table_of c.args.types.now.file.now c.args.types.now.words.now)) c.args.list.now (omega (arith, some)), c.write_type-next.ensures.next, c.write_type-next.auto.out, ap (λ l. length (comma_rest (type_text (table_of c.args.types.now.file.now c.args.types.now.words.now)) l)) (tail_is c.args.list.now))))
+    let is = c.in-Some.ensures.cases.0 in
+    (omega arith, (below_rest _ is c.requires.all_below, omega (arith, c.requires.list_in_bounds, split_length (type_text (table_of c.args.types.now.file.now c.args.types.now.words.now)) c.args.list.now _ is, c.write_type-next.ensures.next, c.write_type-next.auto.out)))
 
 pub write_list-returns : goal.write_list-returns
 write_list-returns t c =
-    let some : length c.args.list.now ≡ 0 → ⊥ = eqb-false _ _ (sym c.is_empty.ensures ∙ c.if-is_empty.false) in
-    wrote_as _ _ _ _ _ _ (comma_split (type_text (table_of c.args.types.now.file.now c.args.types.now.words.now)) c.args.list.now (take (length c.args.list.now - 1) (drop 1 c.args.list.now)) (omega (arith, some)) (tail_is c.args.list.now))
-    (wrote_then (type_text (table_of c.args.types.now.file.now c.args.types.now.words.now) (get_or c.args.list.now 0 0)) (comma_rest (type_text (table_of c.args.types.now.file.now c.args.types.now.words.now)) (take (length c.args.list.now - 1) (drop 1 c.args.list.now))) _ _ _ _ _ _ (omega (arith, c.requires.list_in_bounds, split_length (type_text (table_of c.args.types.now.file.now c.args.types.now.words.now)) c.args.list.now (omega (arith, some)))) c.write_type-next.ensures c.write_rest.ensures)
+    let is = c.in-Some.ensures.cases.0 in
+    wrote_as _ _ _ _ _ _ (comma_split (type_text (table_of c.args.types.now.file.now c.args.types.now.words.now)) c.args.list.now _ is)
+    (wrote_then (type_text (table_of c.args.types.now.file.now c.args.types.now.words.now) c.in-Some.first.now) (comma_rest (type_text (table_of c.args.types.now.file.now c.args.types.now.words.now)) c.in-Some.rest.now) _ _ _ _ _ _ (omega (arith, c.requires.list_in_bounds, split_length (type_text (table_of c.args.types.now.file.now c.args.types.now.words.now)) c.args.list.now _ is)) c.write_type-next.ensures c.write_rest.ensures)
 
 pub write_pointer-put-first-requires : goal.write_pointer-put-first-requires
 unfolding pointer_text
@@ -138,10 +138,10 @@ pub write_type-write_array-requires : goal.write_type-write_array-requires
 write_type-write_array-requires t c = (omega (arith, array_below c.args.types.now.file.now c.args.types.now.words.now c.args.t c.data.result c.data.ensures c.args.types.now.sound c.in-FixedArray.element c.in-FixedArray.size c.in-FixedArray.is), omega (arith, c.requires.t_in_bounds, ap length (array_is c.args.types.now.file.now c.args.types.now.words.now c.args.t c.data.result c.data.ensures c.args.types.now.table_ok c.in-FixedArray.element c.in-FixedArray.size c.in-FixedArray.is)))
 
 pub write_type-put_definition-requires : goal.write_type-put_definition-requires
-write_type-put_definition-requires t c = omega (arith, c.requires.t_in_bounds, ap length (struct_is c.args.types.now.file.now c.args.types.now.words.now c.args.t c.data.result c.data.ensures c.args.types.now.table_ok c.in-Struct.home c.in-Struct.definition c.in-Struct.field-2 c.in-Struct.is))
+write_type-put_definition-requires t c = omega (arith, c.requires.t_in_bounds, ap length (struct_is c.args.types.now.file.now c.args.types.now.words.now c.args.t c.data.result c.data.ensures c.args.types.now.table_ok c.in-Struct.home c.in-Struct.definition c.in-Struct.fields c.in-Struct.is))
 
 pub write_type-put_definition-requires-in-Function : goal.write_type-put_definition-requires-in-Function
-write_type-put_definition-requires-in-Function t c = omega (arith, c.requires.t_in_bounds, ap length (function_is c.args.types.now.file.now c.args.types.now.words.now c.args.t c.data.result c.data.ensures c.args.types.now.table_ok c.in-Function.home c.in-Function.definition c.in-Function.field-2 c.in-Function.field-3 c.in-Function.is))
+write_type-put_definition-requires-in-Function t c = omega (arith, c.requires.t_in_bounds, ap length (function_is c.args.types.now.file.now c.args.types.now.words.now c.args.t c.data.result c.data.ensures c.args.types.now.table_ok c.in-Function.home c.in-Function.definition c.in-Function.params c.in-Function.return_type c.in-Function.is))
 
 pub write_type-returns-in-Felt : goal.write_type-returns-in-Felt
 write_type-returns-in-Felt t c = wrote_as _ _ _ _ _ _ (felt_is c.args.types.now.file.now c.args.types.now.words.now c.args.t c.data.result c.data.ensures c.args.types.now.table_ok c.in-Felt.is) c.put.ensures
@@ -168,7 +168,7 @@ pub write_type-returns-in-FixedArray : goal.write_type-returns-in-FixedArray
 write_type-returns-in-FixedArray t c = wrote_as _ _ _ _ _ _ (array_is c.args.types.now.file.now c.args.types.now.words.now c.args.t c.data.result c.data.ensures c.args.types.now.table_ok c.in-FixedArray.element c.in-FixedArray.size c.in-FixedArray.is) c.write_array.ensures
 
 pub write_type-returns-in-Struct : goal.write_type-returns-in-Struct
-write_type-returns-in-Struct t c = wrote_as _ _ _ _ _ _ (struct_is c.args.types.now.file.now c.args.types.now.words.now c.args.t c.data.result c.data.ensures c.args.types.now.table_ok c.in-Struct.home c.in-Struct.definition c.in-Struct.field-2 c.in-Struct.is) c.put_definition.ensures
+write_type-returns-in-Struct t c = wrote_as _ _ _ _ _ _ (struct_is c.args.types.now.file.now c.args.types.now.words.now c.args.t c.data.result c.data.ensures c.args.types.now.table_ok c.in-Struct.home c.in-Struct.definition c.in-Struct.fields c.in-Struct.is) c.put_definition.ensures
 
 pub write_type-returns-in-Function : goal.write_type-returns-in-Function
-write_type-returns-in-Function t c = wrote_as _ _ _ _ _ _ (function_is c.args.types.now.file.now c.args.types.now.words.now c.args.t c.data.result c.data.ensures c.args.types.now.table_ok c.in-Function.home c.in-Function.definition c.in-Function.field-2 c.in-Function.field-3 c.in-Function.is) c.put_definition-in-Function.ensures
+write_type-returns-in-Function t c = wrote_as _ _ _ _ _ _ (function_is c.args.types.now.file.now c.args.types.now.words.now c.args.t c.data.result c.data.ensures c.args.types.now.table_ok c.in-Function.home c.in-Function.definition c.in-Function.params c.in-Function.return_type c.in-Function.is) c.put_definition-in-Function.ensures
