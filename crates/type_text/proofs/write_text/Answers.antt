@@ -1,7 +1,9 @@
 -- `type_text::write_text` meets its contract: what was measured decides, and the text stands at the start. Assumes nothing.
+use mathlib.Core.Path.{sym, ◌∙◌}
 use native.Mathlib.Omega.{arith}
 use Rattle.resolution.specs.Answer.{type_text}
 use Rattle.type_table.specs.Layout.{table_of}
+use Rattle.type_text.proofs.Writing.{from_start}
 use Rattle.type_text.proofs.Laws.{text_long, text_no_room, text_written}
 use Rattle.type_text.proofs.write_text.Goals as goal
 
@@ -15,4 +17,8 @@ returns-then-out-n c =
 
 pub returns : goal.returns
 returns c =
-    text_written (type_text (table_of c.args.file.now c.args.types.now) c.args.t) c.args.out.now c.write_type.new.out c.write_type.result (omega (arith, c.text_length-n.ensures)) (omega (arith, c.text_length-n.ensures)) c.write_type.ensures
+    let text = type_text (table_of c.args.file.now c.args.types.now) c.args.t in
+    let begun = c.new-writer.ensures in
+    let writes = c.write_type.ensures in
+    text_written text c.args.out.now _ _ (omega (arith, c.text_length-n.ensures)) (omega (arith, c.text_length-n.ensures))
+    (from_start text c.args.out.now _ _ _ begun.bytes begun.at (c.out-1.given.1.1 (sym begun.same_buffer ∙ sym writes.same_buffer)) writes)
