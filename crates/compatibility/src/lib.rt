@@ -18,8 +18,8 @@ use type_table::{BOOL, ERROR, FELT, TypeData, Types, U32};
 
 // ------------------------------------------------------------------ compatibility
 
-// The public functions ask that the words hold a table as interning leaves it: comparing goes down by type numbers, an element's below its holder's, and
-// with other words it might not end. To test that would be to read the whole table at each call; `type_resolution` has it from the first type on.
+// A `Types` is a table as interning leaves it: comparing goes down by type numbers, an element's below its holder's, and with other words it might not end.
+// To test that would be to read the whole table at each call; `type_resolution` has it from the first type on.
 
 fn is_error_or_unknown(row: TypeData) -> bool
     ensures { (file words : List ℕ) → result ≡ is_error_or_unknown (data_is file words row) }
@@ -141,9 +141,10 @@ fn compare_with_store(types: &Types, actual: u32, expected: u32) -> bool
     compatible(types, &mut seen, actual, expected)
 }
 
-// The same. Only two tuples, two arrays or two pointers are compared with a store. Error and unknown are tested before, and not in the last arm as in
-// `compatible_rows`: of an arm with more patterns than one the proof doesn't know which holds, so not that the numbers are of the table.
-fn compare(types: &Types, actual: u32, expected: u32) -> bool
+// Whether a type may stand where another is expected. Only two tuples, two arrays or two pointers are compared with a store. Error and unknown are tested
+// before, and not in the last arm as in `compatible_rows`: of an arm with more patterns than one the proof doesn't know which holds, so not that the
+// numbers are of the table.
+pub fn are_types_compatible(types: &Types, actual: u32, expected: u32) -> bool
     ensures { result ≡ are_types_compatible (table_of types.now.file.now types.now.words.now) actual expected }
 {
     if actual == expected {
@@ -162,16 +163,6 @@ fn compare(types: &Types, actual: u32, expected: u32) -> bool
         }
         _ => false,
     }
-}
-
-// Whether a type may stand where another is expected. This and the two functions of operators take the file and the words, and not a `Types`: the caller
-// lends the words on as `&mut` between its calls, so it would make one at each call.
-pub fn are_types_compatible(file: &[u8], types: &[u32], actual: u32, expected: u32) -> bool
-    requires sound { Sound file.now types.now }
-    requires table_ok { TableOk (table_of file.now types.now) }
-    ensures { result ≡ are_types_compatible (table_of file.now types.now) actual expected }
-{
-    compare(&Types { file, words: types }, actual, expected)
 }
 
 // ------------------------------------------------------------------ operators
@@ -254,37 +245,33 @@ const BINARY_ROWS: [BinaryRow; 24] = [
 fn unary_fits(types: &Types, row: &UnaryRow, op: UnaryOp, operand: u32) -> bool
     ensures { result ≡ unary_row_fits (table_of types.now.file.now types.now.words.now) (unary_op_of op) operand (unary_signature_of row.now) }
 {
-    row.op == op && compare(types, operand, row.operand)
+    row.op == op && are_types_compatible(types, operand, row.operand)
 }
 
 fn binary_fits(types: &Types, row: &BinaryRow, op: BinaryOp, left: u32, right: u32) -> bool
     ensures { result ≡ binary_row_fits (table_of types.now.file.now types.now.words.now) (binary_op_of op) left right (binary_signature_of row.now) }
 {
-    row.op == op && compare(types, left, row.left) && compare(types, right, row.right)
+    row.op == op
+        && are_types_compatible(types, left, row.left)
+        && are_types_compatible(types, right, row.right)
 }
 
 // The result of the first row that fits, from the top; else error.
-pub fn unary_result(file: &[u8], types: &[u32], op: UnaryOp, operand: u32) -> u32
-    requires sound { Sound file.now types.now }
-    requires table_ok { TableOk (table_of file.now types.now) }
-    ensures { result ≡ unary_result (table_of file.now types.now) unary_op_signatures (unary_op_of op) operand }
+pub fn unary_result(types: &Types, op: UnaryOp, operand: u32) -> u32
+    ensures { result ≡ unary_result (table_of types.now.file.now types.now.words.now) unary_op_signatures (unary_op_of op) operand }
 {
-    let held = Types { file, words: types };
     UNARY_ROWS
         .iter()
-        .find(|row| unary_fits(&held, row, op, operand))
+        .find(|row| unary_fits(types, row, op, operand))
         .map_or(ERROR, |row| row.result)
 }
 
 // The type that the first row of the operator gives whose operands fit; error where none does.
-pub fn binary_result(file: &[u8], types: &[u32], op: BinaryOp, left: u32, right: u32) -> u32
-    requires sound { Sound file.now types.now }
-    requires table_ok { TableOk (table_of file.now types.now) }
-    ensures { result ≡ binary_result (table_of file.now types.now) binary_op_signatures (binary_op_of op) left right }
+pub fn binary_result(types: &Types, op: BinaryOp, left: u32, right: u32) -> u32
+    ensures { result ≡ binary_result (table_of types.now.file.now types.now.words.now) binary_op_signatures (binary_op_of op) left right }
 {
-    let held = Types { file, words: types };
     BINARY_ROWS
         .iter()
-        .find(|row| binary_fits(&held, row, op, left, right))
+        .find(|row| binary_fits(types, row, op, left, right))
         .map_or(ERROR, |row| row.result)
 }

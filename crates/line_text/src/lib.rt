@@ -4,14 +4,14 @@
 ghost use Rattle.std.specs.Prelude.{◌≡◌, ◌+◌, ◌≤◌, ◌++◌, length};
 ghost use Rattle.model.specs.Common.{bytes};
 ghost use Rattle.resolution.specs.Answer.{decimal, type_text, Verdict, text_verdict, asked_lead};
-ghost use Rattle.resolution.specs.TableOk.{TableOk};
 ghost use Rattle.resolution.specs.TypeResolution.{none_word};
-ghost use Rattle.type_table.specs.Layout.{table_of, Sound};
+ghost use Rattle.type_table.specs.Layout.{table_of};
 ghost use Rattle.refusals.specs.Numbers.{refusal_number};
 ghost use Rattle.views.specs.Asking.{asked_of};
 ghost use Rattle.line_text.specs.Lines.{line_error_of, LeadPut, TriedIs, WrittenIs, line_with};
 
 use refusals::Refusal;
+use type_table::Types;
 use type_text::{TextError, Writer};
 use views::Asked;
 
@@ -67,17 +67,9 @@ fn put_lead(asked: Asked, out: &mut Writer)
 
 // Writes the line of a type. The text goes straight behind the four lead fields, into the rest of the buffer lent from its middle; it is
 // measured before anything is written, and the lead fields and the LF come once it stands, so that a line without room and a refusal
-// leave the buffer as it is. It asks for a table as interning leaves it, as the text does.
-pub fn write_typed(
-    file: &[u8],
-    types: &[u32],
-    t: u32,
-    asked: Asked,
-    out: &mut [u8],
-) -> Result<usize, LineError>
-    requires sound { Sound file.now types.now }
-    requires table_ok { TableOk (table_of file.now types.now) }
-    ensures { TriedIs (asked_lead (asked_of asked)) (text_verdict (type_text (table_of file.now types.now) t)) out.old out.new result }
+// leave the buffer as it is.
+pub fn write_typed(types: &Types, t: u32, asked: Asked, out: &mut [u8]) -> Result<usize, LineError>
+    ensures { TriedIs (asked_lead (asked_of asked)) (text_verdict (type_text (table_of types.now.file.now types.now.words.now) t)) out.old out.new result }
 {
     let mut lead = [0u8; 64];
     let mut writer = Writer::new(&mut lead);
@@ -89,7 +81,7 @@ pub fn write_typed(
         return Err(LineError::NoRoom);
     }
     let end = len - 1;
-    let n = type_text::write_text(file, types, t, &mut out[at..end])?;
+    let n = type_text::write_text(types, t, &mut out[at..end])?;
     let mut line = Writer::new(out);
     line.put(&lead[..at]);
     line.at = at + n;

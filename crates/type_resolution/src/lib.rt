@@ -27,7 +27,7 @@ use records::{
     ExpressionInfo, FileScopeId, Index, Items, Name, Origin, TypeExpr, UnaryOp,
 };
 use refusals::Refusal;
-use type_table::TypeList;
+use type_table::{TypeList, Types};
 use views::Asked;
 
 // ------------------------------------------------------------------ reads
@@ -701,7 +701,14 @@ fn un(
 {
     let e = operand.ok_or(Refusal::MissingChild)?;
     let t = expr_type(index, types, demands, depth, m, e, context)?;
-    Ok(compatibility::unary_result(index.file, types, op, t))
+    Ok(compatibility::unary_result(
+        &Types {
+            file: index.file,
+            words: types,
+        },
+        op,
+        t,
+    ))
 }
 
 // An operator of two operands: the one that is asked second has the first one's type as its context.
@@ -725,11 +732,27 @@ fn bin(
     if views::right_first(index.words, m, op, a, b) {
         let y = expr_type(index, types, demands, depth, m, b, context)?;
         let x = expr_type(index, types, demands, depth, m, a, Some(y))?;
-        Ok(compatibility::binary_result(index.file, types, op, x, y))
+        Ok(compatibility::binary_result(
+            &Types {
+                file: index.file,
+                words: types,
+            },
+            op,
+            x,
+            y,
+        ))
     } else {
         let x = expr_type(index, types, demands, depth, m, a, context)?;
         let y = expr_type(index, types, demands, depth, m, b, Some(x))?;
-        Ok(compatibility::binary_result(index.file, types, op, x, y))
+        Ok(compatibility::binary_result(
+            &Types {
+                file: index.file,
+                words: types,
+            },
+            op,
+            x,
+            y,
+        ))
     }
 }
 
@@ -1003,7 +1026,14 @@ fn same(
             return Ok(false);
         };
         let x = expr_type(index, types, demands, depth, m, e, Some(t))?;
-        if !compatibility::are_types_compatible(index.file, types, x, t) {
+        if !compatibility::are_types_compatible(
+            &Types {
+                file: index.file,
+                words: types,
+            },
+            x,
+            t,
+        ) {
             return Ok(false);
         }
     }

@@ -109,7 +109,7 @@ pub enum TypeData {
         element: u32,
         size: u64,
     },
-    // home is the module.
+    // A definition of the module `home`.
     Struct {
         home: u32,
         definition: u32,
@@ -209,7 +209,7 @@ fn same_names(file: &[u8], a: &[u32], b: &[u32]) -> bool
         ))
 }
 
-// Copies all of src to a place. (The functions `put` of loader and of type_text write at a place too; each promises what its own layout is read by.)
+// Copies all of src to a place. (loader's `put` and that of type_text's `Writer` write at a place too; each promises what its own layout is read by.)
 fn copy_to(words: &mut [u32], at: usize, src: &[u32])
     requires { at + length src.now ≤ length words.old }
     ensures { Copied at src.now words.old words.new }

@@ -1,13 +1,12 @@
 -- Texts written one behind the other: what `Wrote` says of one, of two in a row and of the bytes around them. Assumes nothing.
-use Prim.Native.Nat.{ℕ, suc, ◌+◌, ◌-◌, ◌≤◌, ◌<◌}
+use Prim.Native.Nat.{ℕ, ◌+◌, ◌-◌, ◌≤◌}
 use mathlib.Core.Path.{◌≡◌, refl, sym, ap, ap₂, subst, ◌∙◌}
-use mathlib.Core.List.{List, [], ◌∷◌, ◌++◌, append_assoc, append-nil}
+use mathlib.Core.List.{List, [], ◌++◌, append_assoc, append-nil}
 use native.Mathlib.Nat.{add-zero, add_assoc, le_refl, le_trans, le-add_right}
-use native.Mathlib.Numerals.{add-one}
 use native.Mathlib.Omega.{arith}
 use borrow.Rule.Slice.PartMut.{put_mid}
-use lib.ListN.{length, take, drop, set, length-append, take-append-drop}
-use lib.Seq.{take-length, take_at, drop_at, drop-drop, length-take-le, length-paste, paste, set_split, append_snoc}
+use lib.ListN.{length, take, drop, length-append, take-append-drop}
+use lib.Seq.{take-length, take_at, drop_at, drop-drop, length-take-le, length-paste, paste}
 use Rattle.type_text.specs.Text.{put_at, Wrote, Writes}
 use Rattle.type_text.specs.declared.Writer.{Writer}
 

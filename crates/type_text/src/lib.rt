@@ -3,8 +3,7 @@
 
 ghost use Rattle.std.specs.Prelude.{◌≡◌, ◌+◌, ◌≤◌, min, length};
 ghost use Rattle.resolution.specs.Answer.{decimal, comma_texts, type_text};
-ghost use Rattle.resolution.specs.TableOk.{TableOk};
-ghost use Rattle.type_table.specs.Layout.{table_of, AllBelow, Sound};
+ghost use Rattle.type_table.specs.Layout.{table_of, AllBelow};
 ghost use Rattle.type_text.specs.Text.{Digits, Writes, WritesText};
 ghost use Rattle.type_text.specs.Text.{comma_rest, tuple_text, pointer_text, array_text, definition_text};
 
@@ -68,8 +67,6 @@ impl<'a> Writer<'a> {
     }
 }
 
-// `write_text` asks for a table as interning leaves it: measuring and writing go down by type numbers, an element's below its holder's.
-
 // Writes a definition: a lead, the number of its module, a point and its own number.
 fn put_definition(out: &mut Writer, lead: &[u8], home: u32, definition: u32)
     requires { out.old.at + length (definition_text lead.now home definition) ≤ length out.old.out.now }
@@ -92,6 +89,8 @@ fn decimal_length(n: u64) -> usize
 }
 
 // ------------------------------------------------------------------ measuring
+
+// A `Types` is a table as interning leaves it: measuring and writing go down by type numbers, an element's below its holder's.
 
 // A length, where all over 4,096 count as 4,097.
 fn capped(n: usize) -> usize
@@ -262,13 +261,10 @@ fn write_rest(types: &Types, holder: u32, list: &[u32], out: &mut Writer)
 }
 
 // Writes the text of a type at the start of a buffer, where it is at most 4,096 bytes and the buffer has room.
-pub fn write_text(file: &[u8], types: &[u32], t: u32, out: &mut [u8]) -> Result<usize, TextError>
-    requires sound { Sound file.now types.now }
-    requires table_ok { TableOk (table_of file.now types.now) }
-    ensures { WritesText (type_text (table_of file.now types.now) t) out.old out.new result }
+pub fn write_text(types: &Types, t: u32, out: &mut [u8]) -> Result<usize, TextError>
+    ensures { WritesText (type_text (table_of types.now.file.now types.now.words.now) t) out.old out.new result }
 {
-    let held = Types { file, words: types };
-    let n = text_length(&held, t);
+    let n = text_length(types, t);
     if MAX_TEXT < n {
         return Err(TextError::TooLong);
     }
@@ -276,6 +272,6 @@ pub fn write_text(file: &[u8], types: &[u32], t: u32, out: &mut [u8]) -> Result<
         return Err(TextError::NoRoom);
     }
     let mut writer = Writer::new(out);
-    write_type(&held, t, &mut writer);
+    write_type(types, t, &mut writer);
     Ok(writer.at)
 }

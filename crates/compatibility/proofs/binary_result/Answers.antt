@@ -11,7 +11,7 @@ use Rattle.compatibility.proofs.binary_result.Goals as goal
 
 pub returns : goal.returns
 returns c =
-    let table = table_of c.args.file.now c.args.types.now in
+    let table = table_of c.args.types.now.file.now c.args.types.now.words.now in
     binary_found table (binary_op_of c.args.op) c.args.left c.args.right c.find.result c.map_or.result
     (find_from_yields_List (λ row. binary_row_fits table (binary_op_of c.args.op) c.args.left c.args.right (binary_signature_of row)) _ _ c.find.result c.find.ensures.ran (YieldsList-from_slice BINARY_ROWS cc) (λ x b q k. search (rules, tests)))
     (search (rules, tests))

@@ -11,7 +11,7 @@ use Rattle.compatibility.proofs.unary_result.Goals as goal
 
 pub returns : goal.returns
 returns c =
-    let table = table_of c.args.file.now c.args.types.now in
+    let table = table_of c.args.types.now.file.now c.args.types.now.words.now in
     unary_found table (unary_op_of c.args.op) c.args.operand c.find.result c.map_or.result
     (find_from_yields_List (λ row. unary_row_fits table (unary_op_of c.args.op) c.args.operand (unary_signature_of row)) _ _ c.find.result c.find.ensures.ran (YieldsList-from_slice UNARY_ROWS cc) (λ x b q k. search (rules, tests)))
     (search (rules, tests))

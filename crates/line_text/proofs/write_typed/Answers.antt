@@ -21,7 +21,7 @@ use Rattle.line_text.proofs.write_typed.Goals as goal
 pub returns-then-len-at : goal.returns-then-len-at
 returns-then-len-at c =
     let lead = asked_lead (asked_of c.args.asked) in
-    let text = type_text (table_of c.args.file.now c.args.types.now) c.args.t in
+    let text = type_text (table_of c.args.types.now.file.now c.args.types.now.words.now) c.args.t in
     let begun = c.new-writer.ensures in
     let all = writes_then lead (bytes "type\t") _ _ _ (omega (arith, begun.at)) c.put_lead.ensures.writes c.put.ensures in
     record {
@@ -47,7 +47,7 @@ returns-in_err-n c =
     lead = asked_lead (asked_of c.args.asked)
 
     text : Text
-    text = type_text (table_of c.args.file.now c.args.types.now) c.args.t
+    text = type_text (table_of c.args.types.now.file.now c.args.types.now.words.now) c.args.t
 
     kept : c.write_text.new.out ≡ mid_of c.put.new.self.at (length c.args.out.now - 1 - c.put.new.self.at) c.args.out.now
         → put_mid c.put.new.self.at (length c.args.out.now - 1 - c.put.new.self.at) c.args.out.now c.write_text.new.out ≡ c.args.out.now
@@ -72,7 +72,7 @@ returns-in_err-n c =
 pub returns : goal.returns
 returns c =
     let lead = asked_lead (asked_of c.args.asked) in
-    let text = type_text (table_of c.args.file.now c.args.types.now) c.args.t in
+    let text = type_text (table_of c.args.types.now.file.now c.args.types.now.words.now) c.args.t in
     let begun = c.new-writer.ensures in
     let line = c.new-line.ensures in
     let all = writes_then lead (bytes "type\t") _ _ _ (omega (arith, begun.at)) c.put_lead.ensures.writes c.put.ensures in

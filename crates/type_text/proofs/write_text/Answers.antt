@@ -9,15 +9,15 @@ use Rattle.type_text.proofs.write_text.Goals as goal
 
 pub returns-then-n-gt-MAX_TEXT : goal.returns-then-n-gt-MAX_TEXT
 returns-then-n-gt-MAX_TEXT c =
-    text_long (type_text (table_of c.args.file.now c.args.types.now) c.args.t) c.args.out.now (omega (arith, c.text_length-n.ensures))
+    text_long (type_text (table_of c.args.types.now.file.now c.args.types.now.words.now) c.args.t) c.args.out.now (omega (arith, c.text_length-n.ensures))
 
 pub returns-then-out-n : goal.returns-then-out-n
 returns-then-out-n c =
-    text_no_room (type_text (table_of c.args.file.now c.args.types.now) c.args.t) c.args.out.now (omega (arith, c.text_length-n.ensures)) (omega (arith, c.text_length-n.ensures))
+    text_no_room (type_text (table_of c.args.types.now.file.now c.args.types.now.words.now) c.args.t) c.args.out.now (omega (arith, c.text_length-n.ensures)) (omega (arith, c.text_length-n.ensures))
 
 pub returns : goal.returns
 returns c =
-    let text = type_text (table_of c.args.file.now c.args.types.now) c.args.t in
+    let text = type_text (table_of c.args.types.now.file.now c.args.types.now.words.now) c.args.t in
     let begun = c.new-writer.ensures in
     let writes = c.write_type.ensures in
     text_written text c.args.out.now _ _ (omega (arith, c.text_length-n.ensures)) (omega (arith, c.text_length-n.ensures))
