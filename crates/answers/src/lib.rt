@@ -22,6 +22,7 @@ use demands::Place;
 use line_text::LineError;
 use records::Index;
 use refusals::{FileRefusal, FileRefused, Refusal};
+use type_table::Types;
 use views::Asked;
 
 // One line's answer: it stands at the start of the answer buffer, with its length; one of the refusals 6 to 10; or the question has no line of that number.
@@ -81,7 +82,7 @@ fn answer_typed(
     requires types_len { length types.old ≡ 8192 }
     ensures { SaidAnswered (asked_lead (asked_of asked)) (text_verdict (type_text (table_of file.now types.old) t)) types.old out.old types.new out.new result }
 {
-    let written = line_text::write_typed(file, types, t, asked, out);
+    let written = line_text::write_typed(&Types { file, words: types }, t, asked, out);
     if written.is_err() {
         type_table::clear(types);
     }

@@ -1,12 +1,12 @@
 -- What the code's tests say of two types: by their numbers, by their rows, and of two lists from a place on. Assumes nothing.
-use Prim.Native.Nat.{ℕ, zero, ◌+◌, ◌≤◌, ◌<◌, zero-le, suc-le-suc}
+use Prim.Native.Nat.{ℕ, zero, ◌<◌, zero-le, suc-le-suc}
 use mathlib.Core.Path.{◌≡◌, refl, sym, ap, ap₂, subst, ◌∙◌}
 use mathlib.Core.Logic.{∥∥₁_elim}
 use mathlib.Core.Bool.{Bool, Bool-set, true, false, true≢false, not, ◌&&◌, ◌||◌}
-use mathlib.Core.List.{List}
+use mathlib.Core.List.{List, [], ◌∷◌}
 use borrow.Author.Tests.{eq-eqb, ne_eqb, not-true, not-false, ltb-true, ltb-false}
 use lib.Dec.{eqb, ltb}
-use lib.ListN.{length, get_or, drop}
+use lib.ListN.{length}
 use Rattle.resolution.specs.TypeData.{TypeData}
 use Rattle.resolution.specs.Types.{kind_number, data_of, is_error_or_unknown}
 use Rattle.resolution.specs.Compatible.{all_pairs, compatible_rows, compatible_within, are_types_compatible}
@@ -19,7 +19,7 @@ use Rattle.type_table.specs.Meaning.{data_is}
 use Rattle.type_table.specs.Promises.{DataRead}
 use Rattle.type_table.proofs.Rows.{data_past}
 use Rattle.type_table.proofs.Laws.{lower}
-use Rattle.type_table.proofs.Pairs.{pairs_step, pairs_stop, pairs_end, pairs_length}
+use Rattle.type_table.proofs.Pairs.{pairs_length}
 use Rattle.compatibility.specs.Pairs.{rows_compatible, lists_compatible}
 use Rattle.compatibility.proofs.ByKind.{Apart, apart_rows, left_open, right_open, tuples, arrays, pointers}
 
@@ -139,22 +139,21 @@ module _ {w : List ℕ} {a e : ℕ} {x y : Row} (left : DataRead w a x) (right :
   pub rows_closed : is_error_or_unknown (data_is file w x) ≡ false → is_error_or_unknown (data_is file w y) ≡ false → Apart x y → false ≡ rows_compatible (table_of file w) a e
   rows_closed cx cy apart = sym (ap₂ (λ p q. p || q) cx cy) ∙ rows_apart apart
 
--- ------------------------------------------------------------------ lists, from a place on
+-- ------------------------------------------------------------------ lists
 
-module _ (file w : List ℕ) (l m : List ℕ) (i : ℕ) (begun : lists_compatible (table_of file w) l m ≡ lists_compatible (table_of file w) (drop i l) (drop i m)) where
-  -- the pair at the place is compatible, or isn't, or there is none
-  module _ (hl : i < length l) (hm : i < length m) (r : Bool) (here : r ≡ are_types_compatible (table_of file w) (get_or l i 0) (get_or m i 0)) where
-    pub lists_step : not r ≡ false → lists_compatible (table_of file w) l m ≡ lists_compatible (table_of file w) (drop (i + 1) l) (drop (i + 1) m)
-    unfolding lists_compatible
-    lists_step e = begun ∙ pairs_step (are_types_compatible (table_of file w)) l m i hl hm (sym here ∙ not-false r e)
+-- by their first elements
+module _ (file w : List ℕ) (x y : ℕ) (l m : List ℕ) (r : Bool) (here : r ≡ are_types_compatible (table_of file w) x y) where
+  pub lists_step : not r ≡ false → lists_compatible (table_of file w) (x ∷ l) (y ∷ m) ≡ lists_compatible (table_of file w) l m
+  unfolding lists_compatible all_pairs
+  lists_step e = ap (λ b. b && all_pairs (are_types_compatible (table_of file w)) l m) (sym here ∙ not-false r e)
 
-    pub lists_stop : not r ≡ true → false ≡ lists_compatible (table_of file w) l m
-    unfolding lists_compatible
-    lists_stop e = sym (begun ∙ pairs_stop (are_types_compatible (table_of file w)) l m i hl hm (sym here ∙ not-true r e))
+  pub lists_stop : not r ≡ true → lists_compatible (table_of file w) (x ∷ l) (y ∷ m) ≡ false
+  unfolding lists_compatible all_pairs
+  lists_stop e = ap (λ b. b && all_pairs (are_types_compatible (table_of file w)) l m) (sym here ∙ not-true r e)
 
-  pub lists_end : length l ≤ i → length m ≤ i → true ≡ lists_compatible (table_of file w) l m
-  unfolding lists_compatible
-  lists_end hl hm = sym (begun ∙ pairs_end (are_types_compatible (table_of file w)) l m i hl hm)
+pub lists_end : (file w : List ℕ) → lists_compatible (table_of file w) [] [] ≡ true
+unfolding lists_compatible all_pairs
+lists_end file w = refl
 
 pub lists_length : (file w : List ℕ) (l m : List ℕ) → (length l ≡ length m → ⊥) → false ≡ lists_compatible (table_of file w) l m
 unfolding lists_compatible

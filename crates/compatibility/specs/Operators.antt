@@ -9,10 +9,10 @@ use Rattle.compatibility.specs.declared.BinaryRow.{BinaryRow}
 
 -- what a row of the code means
 abbrev pub unary_signature_of : UnaryRow → UnaryOpSignature
-unary_signature_of row = record { op = unary_op_of row.0; operand = row.1; result = row.2 }
+unary_signature_of row = record { op = unary_op_of row.op; operand = row.operand; result = row.result }
 
 abbrev pub binary_signature_of : BinaryRow → OperatorSignature
-binary_signature_of row = record { op = binary_op_of row.0; left = row.1; right = row.2; result = row.3 }
+binary_signature_of row = record { op = binary_op_of row.op; left = row.left; right = row.right; result = row.result }
 
 -- the definition's test of a row
 abbrev pub unary_row_fits : Table → UnaryOp → ℕ → UnaryOpSignature → Bool

@@ -18,14 +18,16 @@ use type_table::{BOOL, ERROR, FELT, TypeData, Types, U32};
 
 // ------------------------------------------------------------------ compatibility
 
-// The public functions ask that the words hold a table as interning leaves it: comparing goes down by type numbers, an element's below its holder's, and
-// with other words it might not end. To test that would be to read the whole table at each call; `type_resolution` has it from the first type on.
+// A `Types` is a table as interning leaves it: comparing goes down by type numbers, an element's below its holder's, and with other words it might not end.
+// To test that would be to read the whole table at each call; `type_resolution` has it from the first type on.
 
 fn is_error_or_unknown(row: TypeData) -> bool
     ensures { (file words : List ℕ) → result ≡ is_error_or_unknown (data_is file words row) }
 {
     matches!(row, TypeData::Error | TypeData::Unknown)
 }
+
+// The store is a slice of words: what it remembers is of the table beside it, and a struct of both would have to promise that the table stays.
 
 // Whether a place of the store is marked. A word holds the marks of 32 places, a bit for each.
 fn is_marked(seen: &[u32], at: usize) -> bool
@@ -80,7 +82,16 @@ fn compatible_rows(types: &Types, seen: &mut [u32], actual: u32, expected: u32) 
     let e = type_table::data(words, expected);
     match (a, e) {
         (TypeData::Pointer(x), TypeData::Pointer(y)) => compatible(types, seen, x, y),
-        (TypeData::FixedArray(x, m), TypeData::FixedArray(y, n)) => {
+        (
+            TypeData::FixedArray {
+                element: x,
+                size: m,
+            },
+            TypeData::FixedArray {
+                element: y,
+                size: n,
+            },
+        ) => {
             if m != n {
                 return false;
             }
@@ -109,14 +120,11 @@ fn compatible_lists(
     ensures value { result ≡ lists_compatible (table_of types.now.file.now types.now.words.now) left.now right.now }
     ensures remembers_2 { Remembers types.now.file.now types.now.words.now seen.new }
 {
-    let count = left.len();
-    if count != right.len() {
+    if left.len() != right.len() {
         return false;
     }
-    for i in 0..count {
-        let x = left[i];
-        let y = right[i];
-        if !compatible(types, seen, x, y) {
+    for (x, y) in left.iter().zip(right) {
+        if !compatible(types, seen, *x, *y) {
             return false;
         }
     }
@@ -133,8 +141,10 @@ fn compare_with_store(types: &Types, actual: u32, expected: u32) -> bool
     compatible(types, &mut seen, actual, expected)
 }
 
-// The same. Only two tuples, two arrays or two pointers are compared with a store.
-fn compare(types: &Types, actual: u32, expected: u32) -> bool
+// Whether a type may stand where another is expected. Only two tuples, two arrays or two pointers are compared with a store. Error and unknown are tested
+// before, and not in the last arm as in `compatible_rows`: of an arm with more patterns than one the proof doesn't know which holds, so not that the
+// numbers are of the table.
+pub fn are_types_compatible(types: &Types, actual: u32, expected: u32) -> bool
     ensures { result ≡ are_types_compatible (table_of types.now.file.now types.now.words.now) actual expected }
 {
     if actual == expected {
@@ -147,7 +157,7 @@ fn compare(types: &Types, actual: u32, expected: u32) -> bool
     }
     match (a, e) {
         (TypeData::Tuple(_), TypeData::Tuple(_))
-        | (TypeData::FixedArray(_, _), TypeData::FixedArray(_, _))
+        | (TypeData::FixedArray { .. }, TypeData::FixedArray { .. })
         | (TypeData::Pointer(_), TypeData::Pointer(_)) => {
             compare_with_store(types, actual, expected)
         }
@@ -155,56 +165,78 @@ fn compare(types: &Types, actual: u32, expected: u32) -> bool
     }
 }
 
-// Whether a type may stand where another is expected.
-pub fn are_types_compatible(file: &[u8], types: &[u32], actual: u32, expected: u32) -> bool
-    requires sound { Sound file.now types.now }
-    requires table_ok { TableOk (table_of file.now types.now) }
-    ensures { result ≡ are_types_compatible (table_of file.now types.now) actual expected }
-{
-    compare(&Types { file, words: types }, actual, expected)
-}
-
 // ------------------------------------------------------------------ operators
 
-// Operator, operand, result.
+// An operator of one operand with types that it takes and gives.
 #[derive(Clone, Copy)]
-pub struct UnaryRow(pub UnaryOp, pub u32, pub u32);
+pub struct UnaryRow {
+    pub op: UnaryOp,
+    pub operand: u32,
+    pub result: u32,
+}
 
-// Operator, left, right, result.
+// The same of two operands.
 #[derive(Clone, Copy)]
-pub struct BinaryRow(pub BinaryOp, pub u32, pub u32, pub u32);
+pub struct BinaryRow {
+    pub op: BinaryOp,
+    pub left: u32,
+    pub right: u32,
+    pub result: u32,
+}
+
+// A row of the tables below in one line.
+macro_rules! unary {
+    ($op:ident, $operand:expr, $result:expr) => {
+        UnaryRow {
+            op: UnaryOp::$op,
+            operand: $operand,
+            result: $result,
+        }
+    };
+}
+
+macro_rules! binary {
+    ($op:ident, $left:expr, $right:expr, $result:expr) => {
+        BinaryRow {
+            op: BinaryOp::$op,
+            left: $left,
+            right: $right,
+            result: $result,
+        }
+    };
+}
 
 const UNARY_ROWS: [UnaryRow; 3] = [
-    UnaryRow(UnaryOp::Neg, FELT, FELT),
-    UnaryRow(UnaryOp::Neg, U32, U32),
-    UnaryRow(UnaryOp::Not, BOOL, BOOL),
+    unary!(Neg, FELT, FELT),
+    unary!(Neg, U32, U32),
+    unary!(Not, BOOL, BOOL),
 ];
 
 const BINARY_ROWS: [BinaryRow; 24] = [
-    BinaryRow(BinaryOp::Add, FELT, FELT, FELT),
-    BinaryRow(BinaryOp::Add, U32, U32, U32),
-    BinaryRow(BinaryOp::Sub, FELT, FELT, FELT),
-    BinaryRow(BinaryOp::Sub, U32, U32, U32),
-    BinaryRow(BinaryOp::Mul, FELT, FELT, FELT),
-    BinaryRow(BinaryOp::Mul, U32, U32, U32),
-    BinaryRow(BinaryOp::Div, FELT, FELT, FELT),
-    BinaryRow(BinaryOp::Div, U32, U32, U32),
-    BinaryRow(BinaryOp::Mod, U32, U32, U32),
-    BinaryRow(BinaryOp::Eq, FELT, FELT, BOOL),
-    BinaryRow(BinaryOp::Eq, U32, U32, BOOL),
-    BinaryRow(BinaryOp::Eq, BOOL, BOOL, BOOL),
-    BinaryRow(BinaryOp::Neq, FELT, FELT, BOOL),
-    BinaryRow(BinaryOp::Neq, U32, U32, BOOL),
-    BinaryRow(BinaryOp::Neq, BOOL, BOOL, BOOL),
-    BinaryRow(BinaryOp::Less, U32, U32, BOOL),
-    BinaryRow(BinaryOp::Greater, U32, U32, BOOL),
-    BinaryRow(BinaryOp::LessEqual, U32, U32, BOOL),
-    BinaryRow(BinaryOp::GreaterEqual, U32, U32, BOOL),
-    BinaryRow(BinaryOp::And, BOOL, BOOL, BOOL),
-    BinaryRow(BinaryOp::Or, BOOL, BOOL, BOOL),
-    BinaryRow(BinaryOp::BitwiseAnd, U32, U32, U32),
-    BinaryRow(BinaryOp::BitwiseOr, U32, U32, U32),
-    BinaryRow(BinaryOp::BitwiseXor, U32, U32, U32),
+    binary!(Add, FELT, FELT, FELT),
+    binary!(Add, U32, U32, U32),
+    binary!(Sub, FELT, FELT, FELT),
+    binary!(Sub, U32, U32, U32),
+    binary!(Mul, FELT, FELT, FELT),
+    binary!(Mul, U32, U32, U32),
+    binary!(Div, FELT, FELT, FELT),
+    binary!(Div, U32, U32, U32),
+    binary!(Mod, U32, U32, U32),
+    binary!(Eq, FELT, FELT, BOOL),
+    binary!(Eq, U32, U32, BOOL),
+    binary!(Eq, BOOL, BOOL, BOOL),
+    binary!(Neq, FELT, FELT, BOOL),
+    binary!(Neq, U32, U32, BOOL),
+    binary!(Neq, BOOL, BOOL, BOOL),
+    binary!(Less, U32, U32, BOOL),
+    binary!(Greater, U32, U32, BOOL),
+    binary!(LessEqual, U32, U32, BOOL),
+    binary!(GreaterEqual, U32, U32, BOOL),
+    binary!(And, BOOL, BOOL, BOOL),
+    binary!(Or, BOOL, BOOL, BOOL),
+    binary!(BitwiseAnd, U32, U32, U32),
+    binary!(BitwiseOr, U32, U32, U32),
+    binary!(BitwiseXor, U32, U32, U32),
 ];
 
 // The functions of one operand and of two are written twice: a row type that held either would need a number of operands beside them.
@@ -213,41 +245,33 @@ const BINARY_ROWS: [BinaryRow; 24] = [
 fn unary_fits(types: &Types, row: &UnaryRow, op: UnaryOp, operand: u32) -> bool
     ensures { result ≡ unary_row_fits (table_of types.now.file.now types.now.words.now) (unary_op_of op) operand (unary_signature_of row.now) }
 {
-    row.0 == op && compare(types, operand, row.1)
+    row.op == op && are_types_compatible(types, operand, row.operand)
 }
 
 fn binary_fits(types: &Types, row: &BinaryRow, op: BinaryOp, left: u32, right: u32) -> bool
     ensures { result ≡ binary_row_fits (table_of types.now.file.now types.now.words.now) (binary_op_of op) left right (binary_signature_of row.now) }
 {
-    row.0 == op && compare(types, left, row.1) && compare(types, right, row.2)
+    row.op == op
+        && are_types_compatible(types, left, row.left)
+        && are_types_compatible(types, right, row.right)
 }
 
 // The result of the first row that fits, from the top; else error.
-pub fn unary_result(file: &[u8], types: &[u32], op: UnaryOp, operand: u32) -> u32
-    requires sound { Sound file.now types.now }
-    requires table_ok { TableOk (table_of file.now types.now) }
-    ensures { result ≡ unary_result (table_of file.now types.now) unary_op_signatures (unary_op_of op) operand }
+pub fn unary_result(types: &Types, op: UnaryOp, operand: u32) -> u32
+    ensures { result ≡ unary_result (table_of types.now.file.now types.now.words.now) unary_op_signatures (unary_op_of op) operand }
 {
-    let held = Types { file, words: types };
-    for row in &UNARY_ROWS {
-        if unary_fits(&held, row, op, operand) {
-            return row.2;
-        }
-    }
-    ERROR
+    UNARY_ROWS
+        .iter()
+        .find(|row| unary_fits(types, row, op, operand))
+        .map_or(ERROR, |row| row.result)
 }
 
 // The type that the first row of the operator gives whose operands fit; error where none does.
-pub fn binary_result(file: &[u8], types: &[u32], op: BinaryOp, left: u32, right: u32) -> u32
-    requires sound { Sound file.now types.now }
-    requires table_ok { TableOk (table_of file.now types.now) }
-    ensures { result ≡ binary_result (table_of file.now types.now) binary_op_signatures (binary_op_of op) left right }
+pub fn binary_result(types: &Types, op: BinaryOp, left: u32, right: u32) -> u32
+    ensures { result ≡ binary_result (table_of types.now.file.now types.now.words.now) binary_op_signatures (binary_op_of op) left right }
 {
-    let held = Types { file, words: types };
-    for row in &BINARY_ROWS {
-        if binary_fits(&held, row, op, left, right) {
-            return row.3;
-        }
-    }
-    ERROR
+    BINARY_ROWS
+        .iter()
+        .find(|row| binary_fits(types, row, op, left, right))
+        .map_or(ERROR, |row| row.result)
 }

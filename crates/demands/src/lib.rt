@@ -52,7 +52,7 @@ impl From<Place> for OpenDemand {
             KIND_TYPE => OpenDemand::Type(m, n, FileScopeId(more)),
             KIND_DEFINITION => OpenDemand::Definition(m, DefinitionIndex(n)),
             KIND_EXPRESSION => {
-                let context = if within != 0 { Some(more) } else { None };
+                let context = (within != 0).then_some(more);
                 OpenDemand::Expression(m, ExpressionId(n), context)
             }
             KIND_STRUCT => OpenDemand::Struct(m, DefinitionIndex(n)),

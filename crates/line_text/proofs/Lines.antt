@@ -24,6 +24,18 @@ use Rattle.line_text.specs.Lines.{put_first, line_error_of, LinePut, TriedIs, li
 pub ten_digits : (n : ℕ) → n < 4294967296 → length (decimal n) ≤ 10
 ten_digits n small = decimal_within 9 n (lt_trans small (lit< tt))
 
+-- what stands before a line's verdict is short
+pub lead_few : (kind : Text) (m n : ℕ) → length kind ≤ 7 → length (decimal m) ≤ 10 → length (decimal n) ≤ 10
+    → length (kind ++ (decimal m ++ (bytes "\t" ++ (decimal n ++ bytes "\t")))) ≤ 29
+lead_few kind m n short m_short n_short =
+    omega (
+      arith,
+      length-append kind (decimal m ++ (bytes "\t" ++ (decimal n ++ bytes "\t"))),
+      length-append (decimal m) (bytes "\t" ++ (decimal n ++ bytes "\t")),
+      length-append (bytes "\t") (decimal n ++ bytes "\t"),
+      length-append (decimal n) (bytes "\t"),
+    )
+
 put_start : (out text : Text) → put_at out 0 text ≡ put_first text out
 unfolding put_at
 put_start out text = ap (λ n. text ++ drop n out) (zero-add (length text))

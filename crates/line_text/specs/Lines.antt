@@ -5,7 +5,8 @@ use Rattle.refusals.specs.declared.Refusal.{Refusal}
 use Rattle.refusals.specs.Numbers.{refusal_number}
 use Rattle.model.specs.Common.{Text}
 use Rattle.resolution.specs.Answer.{Verdict, verdict_fields}
-use Rattle.type_text.specs.Text.{Wrote}
+use Rattle.type_text.specs.Text.{Writes}
+use Rattle.type_text.specs.declared.Writer.{Writer}
 use Rattle.type_text.specs.declared.TextError.{TextError}
 use Rattle.line_text.specs.declared.LineError.{LineError}
 
@@ -14,9 +15,9 @@ abbrev pub put_first : Text → Text → Text
 put_first text out = text ++ drop (length text) out
 
 -- the first three lead fields are few bytes
-pub record LeadPut (lead out out' : Text) (r : ℕ) : Type 0 where
-  pub wrote : Wrote lead 0 out out' r
-  pub few : r ≤ 29
+pub record LeadPut (lead : Text) (w w' : Writer) : Type 0 where
+  pub writes : Writes lead w w'
+  pub few : length lead ≤ 29
 
 -- a line stands at the start of the bytes
 pub record LinePut (line out out' : Text) (n : ℕ) : Type 0 where

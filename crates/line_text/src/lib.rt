@@ -1,18 +1,18 @@
 // The bytes of an answer line, written into a lent buffer: the lead fields, and behind them a type, a word or a refusal.
 #![tactic(auto)]
 
-ghost use Rattle.std.specs.Prelude.{◌≡◌, ◌≤◌, ◌++◌, length};
+ghost use Rattle.std.specs.Prelude.{◌≡◌, ◌+◌, ◌≤◌, ◌++◌, length};
 ghost use Rattle.model.specs.Common.{bytes};
 ghost use Rattle.resolution.specs.Answer.{decimal, type_text, Verdict, text_verdict, asked_lead};
-ghost use Rattle.resolution.specs.TableOk.{TableOk};
 ghost use Rattle.resolution.specs.TypeResolution.{none_word};
-ghost use Rattle.type_table.specs.Layout.{table_of, Sound};
+ghost use Rattle.type_table.specs.Layout.{table_of};
 ghost use Rattle.refusals.specs.Numbers.{refusal_number};
 ghost use Rattle.views.specs.Asking.{asked_of};
 ghost use Rattle.line_text.specs.Lines.{line_error_of, LeadPut, TriedIs, WrittenIs, line_with};
 
 use refusals::Refusal;
-use type_text::TextError;
+use type_table::Types;
+use type_text::{TextError, Writer};
 use views::Asked;
 
 // Why the line of a type is not written.
@@ -38,22 +38,22 @@ impl From<TextError> for LineError {
 // ------------------------------------------------------------------ lead fields
 
 // Writes a line's kind, module and number, each with its tab.
-fn put_fields(kind: &[u8], m: u32, n: u32, out: &mut [u8]) -> usize
+fn put_fields(kind: &[u8], m: u32, n: u32, out: &mut Writer)
     requires kind_len_bound { length kind.now ≤ 7 }
-    requires in_bounds { 64 ≤ length out.old }
-    ensures { LeadPut (kind.now ++ (decimal m ++ (bytes "\t" ++ (decimal n ++ bytes "\t")))) out.old out.new result }
+    requires in_bounds { out.old.at + 29 ≤ length out.old.out.now }
+    ensures { LeadPut (kind.now ++ (decimal m ++ (bytes "\t" ++ (decimal n ++ bytes "\t")))) out.old out.new }
 {
-    let first = type_text::put(out, 0, kind);
-    let second = type_text::put_decimal(out, first, m as u64);
-    let third = type_text::put(out, second, b"\t");
-    let fourth = type_text::put_decimal(out, third, n as u64);
-    type_text::put(out, fourth, b"\t")
+    out.put(kind);
+    out.put_decimal(m as u64);
+    out.put(b"\t");
+    out.put_decimal(n as u64);
+    out.put(b"\t")
 }
 
 // The lead fields of a line, by what it is about.
-fn put_lead(asked: Asked, out: &mut [u8]) -> usize
-    requires { 64 ≤ length out.old }
-    ensures { LeadPut (asked_lead (asked_of asked)) out.old out.new result }
+fn put_lead(asked: Asked, out: &mut Writer)
+    requires { out.old.at + 29 ≤ length out.old.out.now }
+    ensures { LeadPut (asked_lead (asked_of asked)) out.old out.new }
 {
     match asked {
         Asked::Expr(m, e, _) => put_fields(b"expr\t", m, e.0, out),
@@ -67,30 +67,26 @@ fn put_lead(asked: Asked, out: &mut [u8]) -> usize
 
 // Writes the line of a type. The text goes straight behind the four lead fields, into the rest of the buffer lent from its middle; it is
 // measured before anything is written, and the lead fields and the LF come once it stands, so that a line without room and a refusal
-// leave the buffer as it is. It asks for a table as interning leaves it, as the text does.
-pub fn write_typed(
-    file: &[u8],
-    types: &[u32],
-    t: u32,
-    asked: Asked,
-    out: &mut [u8],
-) -> Result<usize, LineError>
-    requires sound { Sound file.now types.now }
-    requires table_ok { TableOk (table_of file.now types.now) }
-    ensures { TriedIs (asked_lead (asked_of asked)) (text_verdict (type_text (table_of file.now types.now) t)) out.old out.new result }
+// leave the buffer as it is.
+pub fn write_typed(types: &Types, t: u32, asked: Asked, out: &mut [u8]) -> Result<usize, LineError>
+    ensures { TriedIs (asked_lead (asked_of asked)) (text_verdict (type_text (table_of types.now.file.now types.now.words.now) t)) out.old out.new result }
 {
     let mut lead = [0u8; 64];
-    let named = put_lead(asked, &mut lead);
-    let at = type_text::put(&mut lead, named, b"type\t");
+    let mut writer = Writer::new(&mut lead);
+    put_lead(asked, &mut writer);
+    writer.put(b"type\t");
+    let at = writer.at;
     let len = out.len();
     if len <= at {
         return Err(LineError::NoRoom);
     }
     let end = len - 1;
-    let n = type_text::write_text(file, types, t, &mut out[at..end])?;
-    type_text::put(out, 0, &lead[..at]);
-    let last = type_text::put(out, at + n, b"\n");
-    Ok(last)
+    let n = type_text::write_text(types, t, &mut out[at..end])?;
+    let mut line = Writer::new(out);
+    line.put(&lead[..at]);
+    line.at = at + n;
+    line.put(b"\n");
+    Ok(line.at)
 }
 
 // Writes the line of a few bytes behind the lead fields, and returns its length; none where it has no room.
@@ -99,13 +95,15 @@ fn write_fields(asked: Asked, fields: &[u8], out: &mut [u8]) -> Option<usize>
     ensures { WrittenIs (asked_lead (asked_of asked) ++ (fields.now ++ bytes "\n")) out.old out.new result }
 {
     let mut line = [0u8; 64];
-    let named = put_lead(asked, &mut line);
-    let behind = type_text::put(&mut line, named, fields);
-    let end = type_text::put(&mut line, behind, b"\n");
+    let mut writer = Writer::new(&mut line);
+    put_lead(asked, &mut writer);
+    writer.put(fields);
+    writer.put(b"\n");
+    let end = writer.at;
     if out.len() < end {
         return None;
     }
-    type_text::put(out, 0, &line[..end]);
+    out[..end].copy_from_slice(&line[..end]);
     Some(end)
 }
 
@@ -114,8 +112,10 @@ pub fn write_refused(asked: Asked, refusal: Refusal, out: &mut [u8]) -> Option<u
     ensures { WrittenIs (line_with (asked_lead (asked_of asked)) (Verdict.refused (refusal_number refusal))) out.old out.new result }
 {
     let mut fields = [0u8; 20];
-    let word = type_text::put(&mut fields, 0, b"refused\t");
-    let end = type_text::put_decimal(&mut fields, word, refusal.number() as u64);
+    let mut writer = Writer::new(&mut fields);
+    writer.put(b"refused\t");
+    writer.put_decimal(refusal.number() as u64);
+    let end = writer.at;
     write_fields(asked, &fields[..end], out)
 }
 

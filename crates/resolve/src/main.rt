@@ -10,6 +10,7 @@ use answers::LinesAnswer;
 use demands::Place;
 use std::io;
 use std::io::{Print, Read};
+use type_text::Writer;
 
 // Puts the line of a refused file at the start of the bytes, and says how long it is. It takes the two numbers that it writes: of a struct's field or a call's
 // result the proof would have to say again that it has ten digits at most.
@@ -17,11 +18,13 @@ fn put_refused(number: u32, line: u32, out: &mut [u8]) -> usize
     requires { 4160 ≤ length out.old }
     ensures { RefusedPut (refusal_line number line) out.old out.new result }
 {
-    let word = type_text::put(out, 0, b"refused\t");
-    let first = type_text::put_decimal(out, word, number as u64);
-    let tab = type_text::put(out, first, b"\t");
-    let second = type_text::put_decimal(out, tab, line as u64);
-    type_text::put(out, second, b"\n")
+    let mut writer = Writer::new(out);
+    writer.put(b"refused\t");
+    writer.put_decimal(number as u64);
+    writer.put(b"\t");
+    writer.put_decimal(line as u64);
+    writer.put(b"\n");
+    writer.at
 }
 
 // What is printed from a question's line on: the question and its line to go on with and how many bytes, or the last bytes, those of a refused file's line too.

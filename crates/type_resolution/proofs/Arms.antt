@@ -24,6 +24,7 @@ use Rattle.resolution.specs.Programs.{Program, done, look, let_some, resolve_ast
 use Rattle.resolution.specs.TypeResolution.{type_expr_type, definition_kind_type, struct_kind_data, function_kind_signature, node_type, context_expected, context_from_origin, signature_param, signature_return_type, let_type, resolve_variable_type, array_repeat_type}
 use Rattle.resolution.specs.Run.{answered, run}
 use Rattle.type_table.specs.Layout.{table_of, type_count}
+use Rattle.type_table.specs.declared.Array.{Array as ArrayRow}
 use Rattle.type_table.specs.Meaning.{found_array_of}
 use Rattle.type_table.specs.Promises.{Reads}
 use Rattle.type_table.specs.Reads.{array_read, param_read, return_read, navigate_read, element_hint_read}
@@ -156,12 +157,12 @@ module _ {file words : List ℕ} {depth : ℕ} {T : List ℕ} {O : List (List �
   numeric_runs {t} {n} {context} is = numeric_by (numeric (table_of file T) t) context n (is.same file)
 
 -- whether a row is an array
-pub is_array : {file T : List ℕ} (t : ℕ) {r : Option (ℕ × ℕ)} {element size : ℕ} → Reads file T (array_read t) (found_array_of r) → r ≡ Some (element, size)
-    → as_array (data_of (table_of file T) t) ≡ Some (record { element = element; size = size })
+pub is_array : {file T : List ℕ} (t : ℕ) {r : Option ArrayRow} {array : ArrayRow} → Reads file T (array_read t) (found_array_of r) → r ≡ Some array
+    → as_array (data_of (table_of file T) t) ≡ Some (record { element = array.element; size = array.size })
 unfolding array_read
 is_array t a e = sym a.same ∙ ap found_array_of e
 
-pub no_array : {file T : List ℕ} (t : ℕ) {r : Option (ℕ × ℕ)} → Reads file T (array_read t) (found_array_of r) → r ≡ None → as_array (data_of (table_of file T) t) ≡ None
+pub no_array : {file T : List ℕ} (t : ℕ) {r : Option ArrayRow} → Reads file T (array_read t) (found_array_of r) → r ≡ None → as_array (data_of (table_of file T) t) ≡ None
 unfolding array_read
 no_array t a e = sym a.same ∙ ap found_array_of e
 

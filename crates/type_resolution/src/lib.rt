@@ -30,7 +30,7 @@ use records::{
     ExpressionInfo, FileScopeId, Index, Items, Name, Origin, TypeExpr, UnaryOp,
 };
 use refusals::Refusal;
-use type_table::TypeList;
+use type_table::{TypeList, Types};
 use views::Asked;
 
 // ------------------------------------------------------------------ reads
@@ -392,15 +392,7 @@ fn fields(
 {
     let mut elements = [0u32; 2048];
     let n = all(index, types, demands, depth, m, s, list, &mut elements)?;
-    let t = type_table::intern_struct(
-        index.file,
-        index.words,
-        types,
-        m,
-        d.0,
-        list,
-        &elements[..n],
-    )?;
+    let t = type_table::intern_struct(index, types, m, d.0, list, &elements[..n])?;
     Ok(Some(t))
 }
 
@@ -692,7 +684,14 @@ fn un(
 {
     let e = operand.ok_or(Refusal::MissingChild)?;
     let t = expr_type(index, types, demands, depth, m, e, context)?;
-    Ok(compatibility::unary_result(index.file, types, op, t))
+    Ok(compatibility::unary_result(
+        &Types {
+            file: index.file,
+            words: types,
+        },
+        op,
+        t,
+    ))
 }
 
 // An operator of two operands: the one that is asked second has the first one's type as its context.
@@ -716,11 +715,27 @@ fn bin(
     if views::right_first(index.words, m, op, a, b) {
         let y = expr_type(index, types, demands, depth, m, b, context)?;
         let x = expr_type(index, types, demands, depth, m, a, Some(y))?;
-        Ok(compatibility::binary_result(index.file, types, op, x, y))
+        Ok(compatibility::binary_result(
+            &Types {
+                file: index.file,
+                words: types,
+            },
+            op,
+            x,
+            y,
+        ))
     } else {
         let x = expr_type(index, types, demands, depth, m, a, context)?;
         let y = expr_type(index, types, demands, depth, m, b, Some(x))?;
-        Ok(compatibility::binary_result(index.file, types, op, x, y))
+        Ok(compatibility::binary_result(
+            &Types {
+                file: index.file,
+                words: types,
+            },
+            op,
+            x,
+            y,
+        ))
     }
 }
 
@@ -766,11 +781,11 @@ fn call(
         return Ok(type_table::ERROR);
     };
     let t = expr_type(index, types, demands, depth, m, e, None)?;
-    let Some((params, result)) = type_table::signature_of(types, t) else {
+    let Some(signature) = type_table::signature_of(types, t) else {
         return Ok(type_table::ERROR);
     };
-    args(index, types, demands, depth, m, params, list)?;
-    Ok(result)
+    args(index, types, demands, depth, m, signature.params, list)?;
+    Ok(signature.return_type)
 }
 
 // Each argument of a call that is there, with its parameter as context.
@@ -963,11 +978,11 @@ fn empty(
         return Ok(type_table::ERROR);
     };
     let x = ast_type(index, types, demands, depth, m, t, s)?;
-    let Some((element, size)) = type_table::array_of(types, x) else {
+    let Some(array) = type_table::array_of(types, x) else {
         return Ok(type_table::ERROR);
     };
-    if size == 0 {
-        type_table::intern_array(index.file, types, element, 0)
+    if array.size == 0 {
+        type_table::intern_array(index.file, types, array.element, 0)
     } else {
         Ok(type_table::ERROR)
     }
@@ -995,7 +1010,14 @@ fn same(
             return Ok(false);
         };
         let x = expr_type(index, types, demands, depth, m, e, Some(t))?;
-        if !compatibility::are_types_compatible(index.file, types, x, t) {
+        if !compatibility::are_types_compatible(
+            &Types {
+                file: index.file,
+                words: types,
+            },
+            x,
+            t,
+        ) {
             return Ok(false);
         }
     }

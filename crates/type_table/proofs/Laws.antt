@@ -83,3 +83,10 @@ module _ {file : List ℕ} {row : TypeData} {w w' : List ℕ} {r : Result ℕ Re
           subst⁻¹ TableOk same (subst (OutcomeOk Below (table_of file w)) new (enter_ok (table_of file w) row ok (entered_inner same))).0
       go None found false room =
           subst⁻¹ (λ x. TableOk (table_of file x)) (by_refusal r refl 9 (i.outcome ∙ enter_no_room row (table_of file w) found room)) ok
+
+-- a bound on all elements, of the first and of those behind it
+pub below_first : {n x : ℕ} (l : List ℕ) {m : List ℕ} → m ≡ (x ∷ l) → AllBelow n m → x < n
+below_first {n} l is all = subst (AllBelow n) is all 0 (suc-le-suc zero-le)
+
+pub below_rest : {n x : ℕ} (l : List ℕ) {m : List ℕ} → m ≡ (x ∷ l) → AllBelow n m → AllBelow n l
+below_rest {n} l is all = λ i past. subst (AllBelow n) is all (suc i) (suc-le-suc past)

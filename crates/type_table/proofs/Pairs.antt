@@ -1,13 +1,13 @@
--- Two lists compared element by element, from a place on. Assumes nothing.
-use Prim.Native.Nat.{ℕ, suc, ◌+◌, ◌≤◌, ◌<◌}
-use mathlib.Core.Path.{◌≡◌, refl, sym, ap, ap₂, ◌∙◌}
+-- Two lists compared element by element. Assumes nothing.
+use Prim.Native.Nat.{ℕ, suc}
+use mathlib.Core.Path.{◌≡◌, refl, sym, ap, ◌∙◌}
 use mathlib.Core.Bool.{Bool, true, false, ◌&&◌}
 use mathlib.Core.List.{List, [], ◌∷◌, map}
-use native.Mathlib.Numerals.{add-one}
+use native.Mathlib.Omega.{arith}
+use Rattle.std.specs.List.{list_all, zip}
 use lib.Dec.{eqb}
 use lib.Pointwise.{pointwise}
-use lib.ListN.{length, get_or, drop, drop_of_length-le}
-use lib.Seq.{drop-cons}
+use lib.ListN.{length}
 use Rattle.model.specs.Common.{eq_numbers}
 use Rattle.model.specs.Records.{Name}
 use Rattle.resolution.specs.Types.{eq_names}
@@ -21,25 +21,6 @@ numbers_cons x y xs ys = go (eqb x y)
     go : (b : Bool) → elim b [ true ↦ eq_numbers xs ys | false ↦ false ] ≡ (b && eq_numbers xs ys)
     go true = refl
     go false = refl
-
-module _ (test : ℕ → ℕ → Bool) (a b : List ℕ) (i : ℕ) where
-  taken_apart : i < length a → i < length b
-      → all_pairs test (drop i a) (drop i b) ≡ (test (get_or a i 0) (get_or b i 0) && all_pairs test (drop (suc i) a) (drop (suc i) b))
-  unfolding all_pairs
-  taken_apart ha hb = ap₂ (λ x y. all_pairs test x y) (drop-cons a i 0 ha) (drop-cons b i 0 hb)
-
-  pub pairs_step : i < length a → i < length b → test (get_or a i 0) (get_or b i 0) ≡ true
-      → all_pairs test (drop i a) (drop i b) ≡ all_pairs test (drop (i + 1) a) (drop (i + 1) b)
-  pairs_step ha hb e =
-      taken_apart ha hb ∙ ap (λ x. x && all_pairs test (drop (suc i) a) (drop (suc i) b)) e
-      ∙ sym (ap (λ n. all_pairs test (drop n a) (drop n b)) (add-one i))
-
-  pub pairs_stop : i < length a → i < length b → test (get_or a i 0) (get_or b i 0) ≡ false → all_pairs test (drop i a) (drop i b) ≡ false
-  pairs_stop ha hb e = taken_apart ha hb ∙ ap (λ x. x && all_pairs test (drop (suc i) a) (drop (suc i) b)) e
-
-  pub pairs_end : length a ≤ i → length b ≤ i → all_pairs test (drop i a) (drop i b) ≡ true
-  unfolding all_pairs
-  pairs_end ha hb = ap₂ (λ x y. all_pairs test x y) (drop_of_length-le a ha) (drop_of_length-le b hb)
 
 and_false : (b : Bool) → b && false ≡ false
 and_false true = refl
@@ -67,3 +48,11 @@ pairs_names f [] [] = refl
 pairs_names f [] (y ∷ ys) = refl
 pairs_names f (x ∷ xs) [] = refl
 pairs_names f (x ∷ xs) (y ∷ ys) = ap (λ r. eq_numbers (f x) (f y) && r) (pairs_names f xs ys)
+
+-- two lists of one length, pair by pair
+pub pairs_zip : (test : ℕ → ℕ → Bool) (a b : List ℕ) → length a ≡ length b → all_pairs test a b ≡ list_all (λ (p : ℕ × ℕ). test p.0 p.1) (zip a b)
+unfolding all_pairs
+pairs_zip test [] [] same = refl
+pairs_zip test [] (y ∷ ys) same = absurd (omega arith)
+pairs_zip test (x ∷ xs) [] same = absurd (omega arith)
+pairs_zip test (x ∷ xs) (y ∷ ys) same = ap (λ r. test x y && r) (pairs_zip test xs ys (omega arith))

@@ -3,8 +3,11 @@ use Prim.Native.Nat.{ℕ, ◌+◌, ◌-◌, ◌≤◌, ◌<◌, zero-le}
 use mathlib.Core.Path.{◌≡◌, refl, sym, ap, subst, ◌∙◌}
 use mathlib.Core.List.{List, [], ◌∷◌}
 use Rattle.std.specs.Prelude.{Option, None, Some, unwrap_or}
+use Rattle.std.specs.Option.{MatchOption, option_map}
+use Rattle.std.specs.Bool.{then_some}
+use mathlib.Core.Bool.{Bool, true, false}
 use native.Mathlib.Omega.{arith}
-use borrow.Author.Tests.{eq-eqb, ne_eqb}
+use borrow.Author.Tests.{eq-eqb, ne_eqb, eqb-true, eqb-false}
 use lib.Dec.{eqb}
 use Rattle.std.specs.Prelude.{slice_get}
 use lib.ListN.{length}
@@ -17,6 +20,7 @@ use Rattle.records.proofs.Lists.{each_begun, each_unroll, each_ended}
 use Rattle.resolution.specs.Types.{Table, error, data_of, is_u32_or_felt, as_tuple, as_array, as_pointer, as_struct, as_function}
 use Rattle.resolution.specs.Views.{numeric, navigate, element_contexts}
 use Rattle.type_table.specs.declared.TypeList.{TypeList}
+use Rattle.type_table.specs.declared.Signature.{Signature}
 use Rattle.type_table.specs.declared.TypeData.{TypeData as Row}
 use Rattle.type_table.specs.Layout.{types_of, table_of, Sound}
 use Rattle.type_table.specs.Meaning.{fields_in, data_is, list_of, no_types, found_types_of}
@@ -70,17 +74,17 @@ module _ {w : List ℕ} {t : ℕ} {row : Row} (r : DataRead w t row) where
   pub struct_absent : Among (0 ∷ 1 ∷ 2 ∷ 3 ∷ 4 ∷ 5 ∷ 6 ∷ 7 ∷ 9 ∷ []) (tag_of the_type row) → (file : List ℕ) → None ≡ as_struct (data_of (table_of file w) t)
   struct_absent h file = other_than_struct file w row h ∙ ap as_struct (r.same file)
 
-  pub signature_found : {m d u : ℕ} {list : TypeList} → row ≡ Row.Function m d list u → SignatureRead w t (Some (list, u))
+  pub signature_found : {m d u : ℕ} {list : TypeList} → row ≡ Row.Function m d list u → SignatureRead w t (Some (record { params = list; return_type = u }))
   unfolding as_function
   signature_found {list = list} e = record {
     same = λ file. ap (λ x. as_function (data_is file w x)) (sym e) ∙ ap as_function (r.same file);
-    within = λ file sound list' u' h. subst (Within w) (ap (λ (o : Option (TypeList × ℕ)). let_some o list (λ p. p.0)) h) (row_within file sound e);
+    within = λ file sound signature h. subst (Within w) (ap (λ (o : Option Signature). let_some o list (λ s. s.params)) h) (row_within file sound e);
   }
 
   pub signature_absent : Among (0 ∷ 1 ∷ 2 ∷ 3 ∷ 4 ∷ 5 ∷ 6 ∷ 7 ∷ 8 ∷ []) (tag_of the_type row) → SignatureRead w t None
   signature_absent h = record {
     same = λ file. other_than_function file w row h ∙ ap as_function (r.same file);
-    within = λ file sound list u e. let z : ◌≡◌ {A = ℕ} 0 1 = cc in absurd (omega arith);
+    within = λ file sound signature e. let z : ◌≡◌ {A = ℕ} 0 1 = cc in absurd (omega arith);
   }
 
   pub numeric_found : Among (0 ∷ 2 ∷ []) (tag_of the_type row) → (file : List ℕ) → Reads file w (numeric_read t) (Some t)
@@ -111,6 +115,27 @@ unwrapped (Some x) b = refl
 
 pub read_or : {A : Type 0} {o p : Option A} (b : A) → o ≡ p → unwrap_or o b ≡ let_some p b (λ x. x)
 read_or {o = o} b same = unwrapped o b ∙ ap (λ o. let_some o b (λ x. x)) same
+
+-- what `and_then` gives, where o stands for p, and the closure's result is f of what o holds
+pub chained : {A A' B : Type 0} (m : A' → A) (f : A → Option B) (o : Option A') (r : Option B) {p : Option A}
+    → option_map m o ≡ p → MatchOption o (r ≡ None) (λ x. r ≡ f (m x)) → r ≡ let_some p None f
+chained m f None r same is = is ∙ ap (λ o. let_some o None f) same
+chained m f (Some x) r same is = is ∙ ap (λ o. let_some o None f) same
+
+-- what `map_or` gives
+pub mapped_or : {A A' B : Type 0} (m : A' → A) (f : A → B) (b : B) (o : Option A') (r : B) {p : Option A}
+    → option_map m o ≡ p → MatchOption o (r ≡ b) (λ x. r ≡ f (m x)) → r ≡ let_some p b f
+mapped_or m f b None r same is = is ∙ ap (λ o. let_some o b f) same
+mapped_or m f b (Some x) r same is = is ∙ ap (λ o. let_some o b f) same
+
+-- what `and_then` gives with a default behind it
+pub chained_or : {A A' B : Type 0} (m : A' → A) (f : A → Option B) (b : B) (o : Option A') (r : Option B) {p : Option A}
+    → option_map m o ≡ p → MatchOption o (r ≡ None) (λ x. r ≡ f (m x)) → unwrap_or r b ≡ let_some p b (λ x. let_some (f x) b (λ y. y))
+chained_or m f b o r {p} same is = ap (λ x. unwrap_or x b) (chained m f o r same is) ∙ go p
+  where
+    go : (p : Option _) → unwrap_or (let_some p None f) b ≡ let_some p b (λ x. let_some (f x) b (λ y. y))
+    go None = refl
+    go (Some x) = unwrapped (f x) b
 
 module _ (w : List ℕ) (context : Option ℕ) (count : ℕ) where
   pub no_context : context ≡ None → ContextsRead w context count no_types
@@ -147,6 +172,19 @@ module _ (w : List ℕ) (context : Option ℕ) (count : ℕ) where
         same = λ file. ap (λ b. if b then types_of w list else []) (sym (ne_eqb _ _ other)) ∙ found_contexts file;
         within = λ file sound. zero-le;
       }
+
+-- a context's elements, where they are as many
+pub contexts_by : (w : List ℕ) (count : ℕ) (context : Option ℕ) (elements held : Option TypeList) → MatchOption context (elements ≡ None) (λ t. TupleRead w t elements)
+    → MatchOption elements (held ≡ None) (λ list. held ≡ then_some (eqb (length (types_of w list)) count) list) → ContextsRead w context count (unwrap_or held no_types)
+contexts_by w count None None held read is = subst (λ o. ContextsRead w None count (unwrap_or o no_types)) (sym is) (no_context w None count refl)
+contexts_by w count None (Some list) held read is = absurd (let z : ◌≡◌ {A = ℕ} 0 1 = cc in omega arith)
+contexts_by w count (Some t) None held read is = subst (λ o. ContextsRead w (Some t) count (unwrap_or o no_types)) (sym is) (no_tuple w (Some t) count refl read refl)
+contexts_by w count (Some t) (Some list) held read is =
+    subst (λ o. ContextsRead w (Some t) count (unwrap_or o no_types)) (sym is) (go (eqb (length (types_of w list)) count) refl)
+  where
+    go : (b : Bool) → eqb (length (types_of w list)) count ≡ b → ContextsRead w (Some t) count (unwrap_or (then_some b list) no_types)
+    go true h = all_contexts w (Some t) count refl read refl (eqb-true _ _ h)
+    go false h = other_count w (Some t) count refl read refl (eqb-false _ _ h)
 
 -- ------------------------------------------------------------------ along a path
 

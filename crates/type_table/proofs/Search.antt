@@ -1,14 +1,14 @@
 -- The first row that passes a test. Assumes nothing.
-use Prim.Native.Nat.{ℕ, zero, suc, ◌+◌, ◌≤◌, ◌<◌, zero-le, suc-le-suc}
+use Prim.Native.Nat.{ℕ, zero, suc, ◌≤◌, ◌<◌, zero-le, suc-le-suc}
 use mathlib.Core.Path.{◌≡◌, refl, sym, ap, ap₂, ◌∙◌}
 use mathlib.Core.Bool.{Bool, true, false}
 use mathlib.Core.List.{List, [], ◌∷◌}
-use Rattle.std.specs.Prelude.{None, Some}
+use Rattle.std.specs.Prelude.{Option, None, Some, cond, find, zip}
+use Rattle.std.specs.Option.{MatchOption, option_map}
+use denote.Ref.{Bor}
 use native.Mathlib.Nat.{not-suc-le-zero, le_of_suc-le-suc}
-use native.Mathlib.Numerals.{add-one}
 use native.Mathlib.Omega.{arith}
-use lib.ListN.{length, get_or, drop, drop_of_length-le}
-use lib.Seq.{drop-cons}
+use lib.ListN.{length, get_or}
 use Rattle.std.specs.Prelude.{if◌then◌else◌}
 use Rattle.model.specs.Common.{first, next, eq_numbers}
 use Rattle.model.specs.Records.{Name}
@@ -51,28 +51,32 @@ module _ (file w : List ℕ) (row : TypeData) where
       (ap (eq_type row) (rows_get file w (type_count w) t below) ∙ here)
       (λ k lower. ap (eq_type row) (rows_get file w (type_count w) k (omega arith)) ∙ all k lower)
 
--- ------------------------------------------------------------------ fields by name, from a place on
+  -- what a search of the numbers gives, by a test that is that of the rows
+  pub found : (r : Option ℕ) (same : ℕ → Bool) → ((k : ℕ) → k < type_count w → eq_type row (row_at file w k) ≡ same k)
+      → MatchOption r ((k : ℕ) → 0 ≤ k → k < type_count w → same k ≡ false) (λ t. (0 ≤ t) × (t < type_count w) × (same t ≡ true) × ((k : ℕ) → 0 ≤ k → k < t → same k ≡ false))
+      → r ≡ find_type (table_of file w) row
+  found None same is none = sym (found_none (λ k below. is k below ∙ none k zero-le below))
+  found (Some t) same is there =
+      sym (found_at t there.1 (is t there.1 ∙ there.2) (λ k lower. is k (omega (arith, there.1)) ∙ there.3 k zero-le lower))
 
-module _ (file : List ℕ) (names items : List ℕ) (name : Name) (i : ℕ) where
-  taken_apart : i < length names → i < length items
-      → field_type (fields_of file (drop i names) (drop i items)) name
-      ≡ (if eq_numbers (name_by file (get_or names i 0)) name then Some (get_or items i 0) else field_type (fields_of file (drop (suc i) names) (drop (suc i) items)) name)
+-- ------------------------------------------------------------------ fields by name
+
+module _ (file : List ℕ) (name : Name) where
+  -- the type beside the first such name
+  field_is : (names items : List ℕ) → field_type (fields_of file names items) name ≡ option_map (λ (p : ℕ × ℕ). p.1) (find (λ (p : ℕ × ℕ). eq_numbers (name_by file p.0) name) (zip names items))
   unfolding fields_of field_type
-  taken_apart hn hi = ap₂ (λ x y. field_type (fields_of file x y) name) (drop-cons names i 0 hn) (drop-cons items i 0 hi)
+  field_is [] items = refl
+  field_is (n ∷ names) [] = refl
+  field_is (n ∷ names) (t ∷ items) = go (eq_numbers (name_by file n) name) (field_is names items)
+    where
+      go : (b : Bool) → field_type (fields_of file names items) name ≡ option_map (λ (p : ℕ × ℕ). p.1) (find (λ (p : ℕ × ℕ). eq_numbers (name_by file p.0) name) (zip names items))
+          → (if b then Some t else field_type (fields_of file names items) name)
+          ≡ option_map (λ (p : ℕ × ℕ). p.1) (cond b (Some (n, t)) (find (λ (p : ℕ × ℕ). eq_numbers (name_by file p.0) name) (zip names items)))
+      go true below = refl
+      go false below = below
 
-  pub field_here : i < length names → i < length items → eq_numbers (name_by file (get_or names i 0)) name ≡ true
-      → field_type (fields_of file (drop i names) (drop i items)) name ≡ Some (get_or items i 0)
-  field_here hn hi e =
-      taken_apart hn hi
-      ∙ ap (λ b. if b then Some (get_or items i 0) else field_type (fields_of file (drop (suc i) names) (drop (suc i) items)) name) e
-
-  pub field_there : i < length names → i < length items → eq_numbers (name_by file (get_or names i 0)) name ≡ false
-      → field_type (fields_of file (drop i names) (drop i items)) name ≡ field_type (fields_of file (drop (i + 1) names) (drop (i + 1) items)) name
-  field_there hn hi e =
-      taken_apart hn hi
-      ∙ ap (λ b. if b then Some (get_or items i 0) else field_type (fields_of file (drop (suc i) names) (drop (suc i) items)) name) e
-      ∙ sym (ap (λ n. field_type (fields_of file (drop n names) (drop n items)) name) (add-one i))
-
-  pub field_none : length names ≤ i → field_type (fields_of file (drop i names) (drop i items)) name ≡ None
-  unfolding fields_of field_type
-  field_none past = ap (λ x. field_type (fields_of file x (drop i items)) name) (drop_of_length-le names past)
+  pub field_found : (names items : List ℕ) (pair : Option (Bor ℕ × Bor ℕ)) (r : Option ℕ)
+      → option_map (λ p. (p.0.now, p.1.now)) pair ≡ find (λ (p : ℕ × ℕ). eq_numbers (name_by file p.0) name) (zip names items)
+      → MatchOption pair (r ≡ None) (λ p. r ≡ Some p.1.now) → r ≡ field_type (fields_of file names items) name
+  field_found names items None r is given = given ∙ ap (option_map (λ (p : ℕ × ℕ). p.1)) is ∙ sym (field_is names items)
+  field_found names items (Some p) r is given = given ∙ ap (option_map (λ (p : ℕ × ℕ). p.1)) is ∙ sym (field_is names items)

@@ -4,6 +4,8 @@ use Rattle.model.specs.Records.{NameWithType}
 use Rattle.resolution.specs.TypeData.{TypeData}
 use Rattle.resolution.specs.Types.{Array, Signature}
 use Rattle.type_table.specs.declared.TypeList.{TypeList}
+use Rattle.type_table.specs.declared.Array.{Array as ArrayRow}
+use Rattle.type_table.specs.declared.Signature.{Signature as SignatureRow}
 use Rattle.type_table.specs.declared.TypeData.{TypeData as Row}
 use Rattle.type_table.specs.declared.TypeData.TheVariants.{Felt, «Bool» as BoolType, U32, Unknown, Error, Tuple, Pointer, FixedArray, Struct, Function}
 use Rattle.type_table.specs.Layout.{types_of, names_from, fields_of}
@@ -50,9 +52,9 @@ abbrev pub found_fields_of : List ℕ → List ℕ → Option TypeList → Optio
 found_fields_of file w = option_map (fields_in file w)
 
 -- an array's element and size
-abbrev pub found_array_of : Option (ℕ × ℕ) → Option Array
-found_array_of = option_map (λ array. record { element = array.0; size = array.1 })
+abbrev pub found_array_of : Option ArrayRow → Option Array
+found_array_of = option_map (λ array. record { element = array.element; size = array.size })
 
 -- a function's parameters and return type
-abbrev pub found_signature_of : List ℕ → Option (TypeList × ℕ) → Option Signature
-found_signature_of w = option_map (λ signature. record { params = types_of w signature.0; return_type = signature.1 })
+abbrev pub found_signature_of : List ℕ → Option SignatureRow → Option Signature
+found_signature_of w = option_map (λ signature. record { params = types_of w signature.params; return_type = signature.return_type })

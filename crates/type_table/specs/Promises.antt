@@ -11,6 +11,7 @@ use Rattle.refusals.specs.declared.Refusal.{Refusal}
 use Rattle.refusals.specs.Numbers.{refusal_number}
 use Rattle.type_table.specs.declared.Head.{Head}
 use Rattle.type_table.specs.declared.TypeList.{TypeList}
+use Rattle.type_table.specs.declared.Signature.{Signature}
 use Rattle.type_table.specs.declared.TypeData.{TypeData as Row}
 use Rattle.type_table.specs.Layout.{types_of, items_from, names_from, head_at, names_at, items_at, type_count, item_count, table_of, Sound}
 use Rattle.type_table.specs.Meaning.{data_is, list_of, found_types_of, found_signature_of}
@@ -69,9 +70,9 @@ pub record TupleRead (types : List ℕ) (t : ℕ) (r : Option TypeList) : Type 0
   pub within : (file : List ℕ) → Sound file types → (list : TypeList) → r ≡ Some list → Within types list
 
 -- the signature of a function, and its list lies within the items
-pub record SignatureRead (types : List ℕ) (t : ℕ) (r : Option (TypeList × ℕ)) : Type 0 where
+pub record SignatureRead (types : List ℕ) (t : ℕ) (r : Option Signature) : Type 0 where
   pub same : (file : List ℕ) → found_signature_of types r ≡ as_function (data_of (table_of file types) t)
-  pub within : (file : List ℕ) → Sound file types → (list : TypeList) (u : ℕ) → r ≡ Some (list, u) → Within types list
+  pub within : (file : List ℕ) → Sound file types → (signature : Signature) → r ≡ Some signature → Within types signature.params
 
 -- the elements of a context that is a tuple of that length, and their list lies within the items
 pub record ContextsRead (types : List ℕ) (context : Option ℕ) (count : ℕ) (r : TypeList) : Type 0 where

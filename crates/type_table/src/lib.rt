@@ -18,7 +18,7 @@ ghost use Rattle.type_table.specs.Reads.{element_hint_read, navigate_read};
 ghost use Rattle.type_table.specs.Promises.{Copied, NamesCopied, cleared, Starts, same_rows, Added};
 ghost use Rattle.type_table.specs.Promises.{Interns, Reads, DataRead, TupleRead, SignatureRead, ContextsRead};
 
-use records::{Items, Name};
+use records::{Index, Items, Name};
 use refusals::Refusal;
 use semantic_index::names;
 
@@ -78,6 +78,20 @@ pub struct TypeList {
     pub count: u32,
 }
 
+// The element and the size of an array.
+#[derive(Clone, Copy, PartialEq, Eq)]
+pub struct Array {
+    pub element: u32,
+    pub size: u64,
+}
+
+// The parameters and the return type of a function.
+#[derive(Clone, Copy, PartialEq, Eq)]
+pub struct Signature {
+    pub params: TypeList,
+    pub return_type: u32,
+}
+
 // The list of no types.
 const NO_TYPES: TypeList = TypeList { first: 0, count: 0 };
 
@@ -91,11 +105,32 @@ pub enum TypeData {
     Error,
     Tuple(TypeList),
     Pointer(u32),
-    FixedArray(u32, u64),
-    // module, definition, fields
-    Struct(u32, u32, TypeList),
-    // module, definition, parameters, return type
-    Function(u32, u32, TypeList, u32),
+    FixedArray {
+        element: u32,
+        size: u64,
+    },
+    // A definition of the module `home`.
+    Struct {
+        home: u32,
+        definition: u32,
+        fields: TypeList,
+    },
+    Function {
+        home: u32,
+        definition: u32,
+        params: TypeList,
+        return_type: u32,
+    },
+}
+
+// A type that may be new to a table: the words of its row, and those of its list. The names are parts of the file.
+#[derive(Clone, Copy)]
+struct NewType<'a> {
+    file: &'a [u8],
+    head: Head,
+    names: &'a [u32],
+    items: &'a [u32],
+    ghost canonical: { Canonical file.now head names.now items.now },
 }
 
 // A table as interning leaves it, with the file that its names are of: read together where one goes down by the types' numbers, an element's below its holder's.
@@ -119,8 +154,8 @@ fn words_from(words: &[u32], from: usize, count: usize) -> &[u32]
     &words[start..end]
 }
 
-// The fixed words of the row of a type.
-fn head_of(types: &[u32], t: u32) -> Head
+// The fixed words of the row of a type. Each by its place, and not by a pattern over a slice: the words may be any, and one past their end counts as 0.
+fn head_at(types: &[u32], t: u32) -> Head
     ensures { result ≡ head_at types.now t }
 {
     let at = 8 * (t as usize);
@@ -141,7 +176,7 @@ fn head_of(types: &[u32], t: u32) -> Head
 }
 
 // The list of the row of a type.
-fn items_of(types: &[u32], t: u32) -> &[u32]
+fn items_at(types: &[u32], t: u32) -> &[u32]
     ensures { result.now ≡ items_at types.now t }
 {
     let at = 8 * (t as usize);
@@ -151,7 +186,7 @@ fn items_of(types: &[u32], t: u32) -> &[u32]
 }
 
 // The names of the row of a type, where it is a struct.
-fn names_of(types: &[u32], t: u32) -> &[u32]
+fn names_at(types: &[u32], t: u32) -> &[u32]
     ensures { result.now ≡ names_at types.now t }
 {
     let at = 8 * (t as usize);
@@ -166,21 +201,15 @@ fn names_of(types: &[u32], t: u32) -> &[u32]
 fn same_names(file: &[u8], a: &[u32], b: &[u32]) -> bool
     ensures { result ≡ eq_names (map (name_by file.now) a.now) (map (name_by file.now) b.now) }
 {
-    if a.len() != b.len() {
-        return false;
-    }
-    let count = a.len();
-    for i in 0..count {
-        let x = a[i];
-        let y = b[i];
-        if !names::same_name(file, records::name_of(x), records::name_of(y)) {
-            return false;
-        }
-    }
-    true
+    a.len() == b.len()
+        && a.iter().zip(b).all(|(x, y)| names::same_name(
+            file,
+            records::name_of(*x),
+            records::name_of(*y),
+        ))
 }
 
-// Copies all of src to a place.
+// Copies all of src to a place. (loader's `put` and that of type_text's `Writer` write at a place too; each promises what its own layout is read by.)
 fn copy_to(words: &mut [u32], at: usize, src: &[u32])
     requires { at + length src.now ≤ length words.old }
     ensures { Copied at src.now words.old words.new }
@@ -222,7 +251,7 @@ pub fn data(types: &[u32], t: u32) -> TypeData
     if records::word_at(types, 0) <= t {
         return TypeData::Error;
     }
-    let head = head_of(types, t);
+    let head = head_at(types, t);
     let at = 8 * (t as usize);
     let first = records::word_at(types, at + 8);
     let count = records::word_at(types, at + 9);
@@ -235,12 +264,26 @@ pub fn data(types: &[u32], t: u32) -> TypeData
         UNKNOWN => TypeData::Unknown,
         KIND_TUPLE => TypeData::Tuple(list),
         KIND_POINTER => TypeData::Pointer(head.element),
-        KIND_ARRAY => TypeData::FixedArray(head.element, head.size),
-        KIND_STRUCT => TypeData::Struct(head.home, head.definition, list),
-        KIND_FUNCTION => TypeData::Function(head.home, head.definition, list, head.element),
+        KIND_ARRAY => TypeData::FixedArray {
+            element: head.element,
+            size: head.size,
+        },
+        KIND_STRUCT => TypeData::Struct {
+            home: head.home,
+            definition: head.definition,
+            fields: list,
+        },
+        KIND_FUNCTION => TypeData::Function {
+            home: head.home,
+            definition: head.definition,
+            params: list,
+            return_type: head.element,
+        },
         _ => TypeData::Error,
     }
 }
+
+// What a type of one kind holds. Functions of the words and a number, and not methods of `TypeData`: what they promise is of the table's type of that number.
 
 // The elements of a tuple.
 fn tuple_of(types: &[u32], t: u32) -> Option<TypeList>
@@ -253,11 +296,11 @@ fn tuple_of(types: &[u32], t: u32) -> Option<TypeList>
 }
 
 // The element and the size of an array.
-pub fn array_of(types: &[u32], t: u32) -> Option<(u32, u64)>
+pub fn array_of(types: &[u32], t: u32) -> Option<Array>
     ensures { (file : List ℕ) → Reads file types.now (array_read t) (found_array_of result) }
 {
     match data(types, t) {
-        TypeData::FixedArray(element, size) => Some((element, size)),
+        TypeData::FixedArray { element, size } => Some(Array { element, size }),
         _ => None,
     }
 }
@@ -267,17 +310,24 @@ fn struct_of(types: &[u32], t: u32) -> Option<TypeList>
     ensures { (file : List ℕ) → found_fields_of file types.now result ≡ as_struct (data_of (table_of file types.now) t) }
 {
     match data(types, t) {
-        TypeData::Struct(_, _, list) => Some(list),
+        TypeData::Struct { fields, .. } => Some(fields),
         _ => None,
     }
 }
 
 // The signature of a function.
-pub fn signature_of(types: &[u32], t: u32) -> Option<(TypeList, u32)>
+pub fn signature_of(types: &[u32], t: u32) -> Option<Signature>
     ensures { SignatureRead types.now t result }
 {
     match data(types, t) {
-        TypeData::Function(_, _, list, result) => Some((list, result)),
+        TypeData::Function {
+            params,
+            return_type,
+            ..
+        } => Some(Signature {
+            params,
+            return_type,
+        }),
         _ => None,
     }
 }
@@ -313,15 +363,11 @@ fn field_type(file: &[u8], types: &[u32], list: TypeList, name: Name) -> Option<
     ensures { result ≡ field_type (fields_in file.now types.now list) (name_of file.now name) }
 {
     let names = words_from(types, NAMES + (list.first as usize), list.count as usize);
-    let items = types_in(types, list);
-    let count = names.len();
-    for i in 0..count {
-        let x = names[i];
-        if names::same_name(file, records::name_of(x), name) {
-            return Some(items[i]);
-        }
-    }
-    None
+    names
+        .iter()
+        .zip(types_in(types, list))
+        .find(|(x, _)| names::same_name(file, records::name_of(**x), name))
+        .map(|(_, t)| *t)
 }
 
 // ------------------------------------------------------------------ what the resolution functions read
@@ -330,20 +376,16 @@ fn field_type(file: &[u8], types: &[u32], list: TypeList, name: Name) -> Option<
 pub fn struct_or_error(types: &[u32], t: u32) -> u32
     ensures { (file : List ℕ) → Reads file types.now (struct_or_error t) result }
 {
-    match struct_of(types, t) {
-        Some(_) => t,
-        None => ERROR,
-    }
+    struct_of(types, t).map_or(ERROR, |_| t)
 }
 
 // The type of a struct's field, else error.
 pub fn member_type(file: &[u8], types: &[u32], t: u32, name: Name) -> u32
     ensures { Reads file.now types.now (member_read t (name_of file.now name)) result }
 {
-    let Some(fields) = struct_of(types, t) else {
-        return ERROR;
-    };
-    field_type(file, types, fields, name).unwrap_or(ERROR)
+    struct_of(types, t)
+        .and_then(|fields| field_type(file, types, fields, name))
+        .unwrap_or(ERROR)
 }
 
 // The element of an array or a pointer, else error.
@@ -351,7 +393,7 @@ pub fn element_type(types: &[u32], t: u32) -> u32
     ensures { (file : List ℕ) → Reads file types.now (element_read t) result }
 {
     match data(types, t) {
-        TypeData::FixedArray(element, _) => element,
+        TypeData::FixedArray { element, .. } => element,
         TypeData::Pointer(element) => element,
         _ => ERROR,
     }
@@ -361,63 +403,50 @@ pub fn element_type(types: &[u32], t: u32) -> u32
 pub fn tuple_element(types: &[u32], t: u32, i: u32) -> u32
     ensures { (file : List ℕ) → Reads file types.now (tuple_element_read t i) result }
 {
-    let Some(elements) = tuple_of(types, t) else {
-        return ERROR;
-    };
-    item(types, elements, i).unwrap_or(ERROR)
+    tuple_of(types, t)
+        .and_then(|elements| item(types, elements, i))
+        .unwrap_or(ERROR)
 }
 
 // A parameter of a function.
 pub fn param_type(types: &[u32], t: u32, i: u32) -> Option<u32>
     ensures { (file : List ℕ) → Reads file types.now (param_read t i) result }
 {
-    let (params, _) = signature_of(types, t)?;
-    item(types, params, i)
+    let signature = signature_of(types, t)?;
+    item(types, signature.params, i)
 }
 
 // The return type of a function.
 pub fn return_type(types: &[u32], t: u32) -> Option<u32>
     ensures { (file : List ℕ) → Reads file types.now (return_read t) result }
 {
-    let (_, returned) = signature_of(types, t)?;
-    Some(returned)
+    let signature = signature_of(types, t)?;
+    Some(signature.return_type)
 }
 
 // The context itself if it is u32 or felt, else felt.
 pub fn numeric_context(types: &[u32], context: Option<u32>) -> u32
     ensures { (file : List ℕ) → Reads file types.now (numeric_context_read context) result }
 {
-    let Some(t) = context else {
-        return FELT;
-    };
-    numeric(types, t).unwrap_or(FELT)
+    context.and_then(|t| numeric(types, t)).unwrap_or(FELT)
 }
 
 // The element of a context that is an array.
 pub fn element_hint(types: &[u32], context: Option<u32>) -> Option<u32>
     ensures { (file : List ℕ) → Reads file types.now (element_hint_read context) result }
 {
-    let t = context?;
-    let (element, _) = array_of(types, t)?;
-    Some(element)
+    let array = array_of(types, context?)?;
+    Some(array.element)
 }
 
 // The elements of a context that is a tuple of that length, else none.
 pub fn element_contexts(types: &[u32], context: Option<u32>, count: u32) -> TypeList
     ensures { ContextsRead types.now context count result }
 {
-    let Some(t) = context else {
-        return NO_TYPES;
-    };
-    let Some(elements) = tuple_of(types, t) else {
-        return NO_TYPES;
-    };
-    let held = types_in(types, elements);
-    if held.len() == (count as usize) {
-        elements
-    } else {
-        NO_TYPES
-    }
+    context
+        .and_then(|t| tuple_of(types, t))
+        .filter(|elements| types_in(types, *elements).len() == (count as usize))
+        .unwrap_or(NO_TYPES)
 }
 
 // Along the path of a destructured value.
@@ -459,42 +488,34 @@ pub fn suffix_type(file: &[u8], suffix: Option<Name>) -> Option<u32>
 // The functions that intern ask that the words hold a table and that the types named are of it, so that an element's number is below its holder's. To test
 // it would be to read the whole table at each type; a table has it from `start` on, and each of these keeps it.
 
-// Whether a head with its lists is that of the row of a type.
-fn same_row(file: &[u8], types: &[u32], t: u32, head: Head, names: &[u32], items: &[u32]) -> bool
-    ensures { result ≡ same_rows file.now head names.now items.now types.now t }
+// Whether a type is that of a row.
+fn same_row(types: &[u32], t: u32, new: &NewType) -> bool
+    ensures { result ≡ same_rows new.now.file.now new.now.head new.now.names.now new.now.items.now types.now t }
 {
-    head == head_of(types, t)
-        && items == items_of(types, t)
-        && same_names(file, names, names_of(types, t))
+    new.head == head_at(types, t)
+        && new.items == items_at(types, t)
+        && same_names(new.file, new.names, names_at(types, t))
 }
 
 // The number of the type, where the table has it.
-fn find_type(file: &[u8], types: &[u32], head: Head, names: &[u32], items: &[u32]) -> Option<u32>
-    requires sound { Sound file.now types.now }
-    requires canonical { Canonical file.now head names.now items.now }
-    ensures { result ≡ find_type (table_of file.now types.now) (data_from file.now head names.now items.now) }
+fn find_type(types: &[u32], new: &NewType) -> Option<u32>
+    requires { Sound new.now.file.now types.now }
+    ensures { result ≡ find_type (table_of new.now.file.now types.now) (data_from new.now.file.now new.now.head new.now.names.now new.now.items.now) }
 {
-    let count = records::word_at(types, 0);
-    for t in 0..count {
-        if same_row(file, types, t, head, names, items) {
-            return Some(t);
-        }
-    }
-    None
+    (0..records::word_at(types, 0)).find(|t| same_row(types, *t, new))
 }
 
 // Writes one row more.
-fn add_row(types: &mut [u32], head: Head, names: &[u32], items: &[u32])
+fn add_row(types: &mut [u32], new: &NewType)
     requires in_bounds { 8192 ≤ length types.old }
     requires types_bound { type_count types.old < 256 }
-    requires bound { item_count types.old + length items.now ≤ 2048 }
-    requires names_in_bounds { length names.now ≤ length items.now }
-    ensures { Added head names.now items.now types.old types.new }
+    requires bound { item_count types.old + length new.now.items.now ≤ 2048 }
+    ensures { Added new.now.head new.now.names.now new.now.items.now types.old types.new }
 {
     let t = types[0];
     let held = types[1];
-    let n = items.len();
-    let count = n as u32;
+    let head = new.head;
+    let count = new.items.len() as u32;
     let low = (head.size % 4294967296) as u32;
     let high = (head.size / 4294967296) as u32;
     let row = [
@@ -508,38 +529,27 @@ fn add_row(types: &mut [u32], head: Head, names: &[u32], items: &[u32])
         count,
     ];
     copy_to(types, 8 * (t as usize) + 2, &row);
-    copy_to(types, ITEMS + (held as usize), items);
-    copy_to(types, NAMES + (held as usize), names);
+    copy_to(types, ITEMS + (held as usize), new.items);
+    copy_to(types, NAMES + (held as usize), new.names);
     types[0] = t + 1;
     types[1] = held + count;
 }
 
 // The number of the type, which enters the table if it is new; refused where there is no room.
-fn intern(
-    file: &[u8],
-    types: &mut [u32],
-    head: Head,
-    names: &[u32],
-    items: &[u32],
-) -> Result<u32, Refusal>
-    requires sound { Sound file.now types.old }
-    requires canonical { Canonical file.now head names.now items.now }
-    requires all_below { AllBelow (type_count types.old) (row_types (data_from file.now head names.now items.now)) }
-    ensures { Interns file.now (data_from file.now head names.now items.now) types.old types.new result }
+fn intern(types: &mut [u32], new: &NewType) -> Result<u32, Refusal>
+    requires sound { Sound new.now.file.now types.old }
+    requires all_below { AllBelow (type_count types.old) (row_types (data_from new.now.file.now new.now.head new.now.names.now new.now.items.now)) }
+    ensures { Interns new.now.file.now (data_from new.now.file.now new.now.head new.now.names.now new.now.items.now) types.old types.new result }
 {
-    if let Some(t) = find_type(file, types, head, names, items) {
+    if let Some(t) = find_type(types, new) {
         return Ok(t);
     }
     let t = types[0];
     let held = types[1];
-    let n = items.len();
-    if MAX_TYPES <= t {
+    if MAX_TYPES <= t || MAX_ITEMS - (held as usize) < new.items.len() {
         return Err(Refusal::TableFull);
     }
-    if MAX_ITEMS - (held as usize) < n {
-        return Err(Refusal::TableFull);
-    }
-    add_row(types, head, names, items);
+    add_row(types, new);
     Ok(t)
 }
 
@@ -563,7 +573,15 @@ pub fn intern_pointer(file: &[u8], types: &mut [u32], element: u32) -> Result<u3
         element,
         ..NO_PARTS
     };
-    intern(file, types, head, &[], &[])
+    intern(
+        types,
+        &NewType {
+            file,
+            head,
+            names: &[],
+            items: &[],
+        },
+    )
 }
 
 // Interns an array of a type.
@@ -578,7 +596,15 @@ pub fn intern_array(file: &[u8], types: &mut [u32], element: u32, size: u64) -> 
         size,
         ..NO_PARTS
     };
-    intern(file, types, head, &[], &[])
+    intern(
+        types,
+        &NewType {
+            file,
+            head,
+            names: &[],
+            items: &[],
+        },
+    )
 }
 
 // Interns a tuple of types.
@@ -591,38 +617,44 @@ pub fn intern_tuple(file: &[u8], types: &mut [u32], elements: &[u32]) -> Result<
         kind: KIND_TUPLE,
         ..NO_PARTS
     };
-    intern(file, types, head, &[], elements)
+    intern(
+        types,
+        &NewType {
+            file,
+            head,
+            names: &[],
+            items: elements,
+        },
+    )
 }
 
-// The name words of the fields.
+// The name words of the fields. One number counts the names and the places of their words, which lie two words apart.
 fn copy_names(words: &[u32], fields: Items, names: &mut [u32])
     requires { fields.count ≤ length names.old }
     ensures { NamesCopied words.now fields.first fields.count names.old names.new }
 {
     let first = fields.first as usize;
-    let count = fields.count as usize;
-    for i in 0..count {
+    for i in 0..fields.count as usize {
         names[i] = records::word_at(words, records::ITEMS + 2 * (first + i) + 1);
     }
 }
 
 // Interns a struct: its module and definition, its fields for their names, and the types of the fields.
 pub fn intern_struct(
-    file: &[u8],
-    words: &[u32],
+    index: &Index,
     types: &mut [u32],
     m: u32,
     d: u32,
     fields: Items,
     elements: &[u32],
 ) -> Result<u32, Refusal>
-    requires sound { Sound file.now types.old }
+    requires sound { Sound index.now.file.now types.old }
     requires elements_len { (length elements.now ≡ fields.count) × (fields.count ≤ 2048) }
     requires all_below { AllBelow (type_count types.old) elements.now }
-    ensures { Interns file.now (Data.Struct m d (typed_fields (names_with_types_of file.now words.now fields) elements.now)) types.old types.new result }
+    ensures { Interns index.now.file.now (Data.Struct m d (typed_fields (names_with_types_of index.now.file.now index.now.words.now fields) elements.now)) types.old types.new result }
 {
     let mut names = [0u32; 2048];
-    copy_names(words, fields, &mut names);
+    copy_names(index.words, fields, &mut names);
     let count = fields.count as usize;
     let head = Head {
         kind: KIND_STRUCT,
@@ -630,7 +662,15 @@ pub fn intern_struct(
         definition: d,
         ..NO_PARTS
     };
-    intern(file, types, head, &names[..count], elements)
+    intern(
+        types,
+        &NewType {
+            file: index.file,
+            head,
+            names: &names[..count],
+            items: elements,
+        },
+    )
 }
 
 // Interns a function: its module and definition, the types of its parameters, and its return type.
@@ -654,5 +694,13 @@ pub fn intern_function(
         element: return_type,
         ..NO_PARTS
     };
-    intern(file, types, head, &[], params)
+    intern(
+        types,
+        &NewType {
+            file,
+            head,
+            names: &[],
+            items: params,
+        },
+    )
 }

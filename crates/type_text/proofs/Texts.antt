@@ -1,15 +1,14 @@
 -- The text of a type by its row, and texts with commas between them. Assumes nothing.
-use Prim.Native.Nat.{ℕ, zero, ◌+◌, ◌-◌, ◌≤◌, ◌<◌, zero-le, suc-le-suc}
+use Prim.Native.Nat.{ℕ, zero, ◌+◌, ◌≤◌, ◌<◌, zero-le, suc-le-suc}
 use mathlib.Core.Path.{◌≡◌, refl, sym, ap, subst, ◌∙◌}
 use mathlib.Core.Logic.{∥∥₁_elim}
 use native.Mathlib.Nat.{ℕ_set}
 use mathlib.Core.List.{is_set as List-set}
 use mathlib.Core.List.{List, [], ◌∷◌, ◌++◌, append_assoc, append-nil}
-use native.Mathlib.Nat.{not-suc-le-zero, le_refl}
 use native.Mathlib.Numerals.{add-one}
 use native.Mathlib.Omega.{arith}
-use lib.ListN.{length, get_or, take, drop, length-append, length-drop, take-append-drop}
-use lib.Seq.{take-suc, take_all, length-take-le, get_or-drop}
+use lib.ListN.{length, get_or, take, drop, length-append, take-append-drop}
+use lib.Seq.{take-suc, take_all}
 use Rattle.model.specs.Common.{bytes}
 use Rattle.resolution.specs.TypeData.{TypeData}
 use Rattle.resolution.specs.Types.{data_of}
@@ -110,64 +109,13 @@ module _
 
 -- ------------------------------------------------------------------ commas
 
-comma_snoc : (f : ℕ → List ℕ) (l : List ℕ) (x : ℕ) → 0 < length l → comma_texts f (l ++ (x ∷ [])) ≡ comma_texts f l ++ (bytes "," ++ f x)
-unfolding comma_texts
-comma_snoc f [] x some = absurd (not-suc-le-zero some)
-comma_snoc f (t ∷ []) x some = refl
-comma_snoc f (t ∷ u ∷ l) x some =
-    ap (λ y. f t ++ (bytes "," ++ y)) (comma_snoc f (u ∷ l) x (suc-le-suc zero-le))
-    ∙ ap (λ y. f t ++ y) (sym (append_assoc (bytes ",") (comma_texts f (u ∷ l)) (bytes "," ++ f x)))
-    ∙ sym (append_assoc (f t) (bytes "," ++ comma_texts f (u ∷ l)) (bytes "," ++ f x))
-
-comma_grows : (f : ℕ → List ℕ) (l m : List ℕ) → length (comma_texts f l) ≤ length (comma_texts f (l ++ m))
-unfolding comma_texts
-comma_grows f [] m = zero-le
-comma_grows f (t ∷ []) [] = le_refl (length (f t))
-comma_grows f (t ∷ []) (u ∷ m) = omega (arith, length-append (f t) (bytes "," ++ comma_texts f (u ∷ m)))
-comma_grows f (t ∷ u ∷ l) m =
-    omega (
-      arith,
-      length-append (f t) (bytes "," ++ comma_texts f (u ∷ l)),
-      length-append (bytes ",") (comma_texts f (u ∷ l)),
-      length-append (f t) (bytes "," ++ comma_texts f (u ∷ (l ++ m))),
-      length-append (bytes ",") (comma_texts f (u ∷ (l ++ m))),
-      comma_grows f (u ∷ l) m,
-    )
-
 none_is : (l : List ℕ) → length l ≡ 0 → l ≡ []
 none_is [] e = refl
 none_is (x ∷ l) e = absurd (omega arith)
 
-first_is : (f : ℕ → List ℕ) (l : List ℕ) → 0 < length l → f (get_or l 0 0) ≡ comma_texts f (take 1 l)
+pub comma_none : (f : ℕ → List ℕ) (l : List ℕ) → length l ≡ 0 → [] ≡ comma_texts f l
 unfolding comma_texts
-first_is f [] some = absurd (not-suc-le-zero some)
-first_is f (x ∷ l) some = refl
-
-module _ (f : ℕ → List ℕ) (l : List ℕ) where
-  pub comma_none : length l ≡ 0 → [] ≡ comma_texts f l
-  unfolding comma_texts
-  comma_none e = sym (ap (comma_texts f) (none_is l e))
-
-  pub comma_first : 0 < length l → f (get_or l 0 0) ≡ comma_texts f (take 1 l)
-  comma_first some = first_is f l some
-
-  pub comma_step : (i : ℕ) → 0 < i → i < length l → comma_texts f (take i l) ++ (bytes "," ++ f (get_or l i 0)) ≡ comma_texts f (take (i + 1) l)
-  comma_step i low below =
-      sym
-      (ap (λ n. comma_texts f (take n l)) (add-one i) ∙ ap (comma_texts f) (take-suc l i 0 below)
-      ∙ comma_snoc f (take i l) (get_or l i 0) (omega (arith, length-take-le i l (omega arith))))
-
-  pub comma_upto : (i : ℕ) → length (comma_texts f (take i l)) ≤ length (comma_texts f l)
-  comma_upto i = omega (arith, comma_grows f (take i l) (drop i l), ap (λ x. length (comma_texts f x)) (take-append-drop i l))
-
-  pub comma_all : (i : ℕ) → length l ≤ i → comma_texts f (take i l) ≡ comma_texts f l
-  comma_all i past = ap (comma_texts f) (take_all i l past)
-
-  pub comma_step_length : (i : ℕ) → 0 < i → i < length l
-      → length (comma_texts f (take (i + 1) l)) ≡ length (comma_texts f (take i l)) + (1 + length (f (get_or l i 0)))
-  comma_step_length i low below =
-      ap length (sym (comma_step i low below)) ∙ length-append (comma_texts f (take i l)) (bytes "," ++ f (get_or l i 0))
-      ∙ ap (λ n. length (comma_texts f (take i l)) + n) (length-append (bytes ",") (f (get_or l i 0)))
+comma_none f l e = sym (ap (comma_texts f) (none_is l e))
 
 -- ------------------------------------------------------------------ a comma before each
 
@@ -189,19 +137,11 @@ unfolding comma_rest
 rest_one f x = ap (λ z. bytes "," ++ z) (append-nil (f x))
 
 -- the first, and the rest behind it
-pub comma_split : (f : ℕ → List ℕ) (l m : List ℕ) → 0 < length l → m ≡ drop 1 l → f (get_or l 0 0) ++ comma_rest f m ≡ comma_texts f l
-comma_split f [] m some e = absurd (not-suc-le-zero some)
-comma_split f (x ∷ l) m some e = ap (λ z. f x ++ comma_rest f z) e ∙ comma_cons f x l
+pub comma_split : (f : ℕ → List ℕ) (l : List ℕ) {x : ℕ} (r : List ℕ) → l ≡ (x ∷ r) → f x ++ comma_rest f r ≡ comma_texts f l
+comma_split f l {x} r is = comma_cons f x r ∙ ap (comma_texts f) (sym is)
 
-pub split_length : (f : ℕ → List ℕ) (l : List ℕ) → 0 < length l → length (f (get_or l 0 0)) + length (comma_rest f (drop 1 l)) ≡ length (comma_texts f l)
-split_length f l some = sym (length-append (f (get_or l 0 0)) (comma_rest f (drop 1 l))) ∙ ap length (comma_split f l (drop 1 l) some refl)
-
--- all but the first
-pub tail_is : (l : List ℕ) → take (length l - 1) (drop 1 l) ≡ drop 1 l
-tail_is l = take_all (length l - 1) (drop 1 l) (simp length-drop (le_refl (length l - 1)))
-
-pub tail_below : (n : ℕ) (l : List ℕ) → AllBelow n l → AllBelow n (take (length l - 1) (drop 1 l))
-tail_below n l all = rw (tail_is l) (λ i past. rw (get_or-drop 1 l i 0) (all (1 + i) (omega (arith, length-drop 1 l))))
+pub split_length : (f : ℕ → List ℕ) (l : List ℕ) {x : ℕ} (r : List ℕ) → l ≡ (x ∷ r) → length (f x) + length (comma_rest f r) ≡ length (comma_texts f l)
+split_length f l {x} r is = sym (length-append (f x) (comma_rest f r)) ∙ ap length (comma_split f l r is)
 
 module _ (f : ℕ → List ℕ) (l : List ℕ) where
   pub rest_none : comma_rest f (take 0 l) ≡ []

@@ -4,6 +4,7 @@ use Rattle.std.specs.Prelude.{if◌then◌else◌, Result, Ok, Err}
 use Rattle.model.specs.Common.{bytes}
 use Rattle.resolution.specs.Answer.{decimal, comma_texts, max_text}
 use Rattle.type_text.specs.declared.TextError.{TextError}
+use Rattle.type_text.specs.declared.Writer.{Writer}
 use Rattle.type_text.specs.declared.TextError.TheVariants.{TooLong, NoRoom}
 
 -- the texts of the kinds, as in the definition's `row_text`
@@ -37,6 +38,12 @@ put_at out at text = take at out ++ text ++ drop (at + length text) out
 pub record Wrote (text : List ℕ) (at : ℕ) (out out' : List ℕ) (r : ℕ) : Type 0 where
   pub bytes : out' ≡ put_at out at text
   pub next : r ≡ at + length text
+
+-- the same of a writer: it goes on in the same buffer
+pub record Writes (text : List ℕ) (w w' : Writer) : Type 0 where
+  pub wrote : Wrote text w.at w.out.now w'.out.now w'.at
+  pub long : length w'.out.now ≡ length w.out.now
+  pub same_buffer : w'.out.ghost_name ≡ w.out.ghost_name
 
 -- 10: "a text over 4,096 bytes"
 unfoldable pub text_answer : List ℕ → ℕ → Result ℕ TextError

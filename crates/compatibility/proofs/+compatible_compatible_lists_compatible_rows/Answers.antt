@@ -1,9 +1,14 @@
 -- Types, rows and lists compared: an element has a lower number than its holder, so the calls end. Assumes nothing.
-use mathlib.Core.Path.{◌≡◌, ap, ◌∙◌}
+use mathlib.Core.Path.{◌≡◌, sym, ap, ap₂, ◌∙◌}
+use Rattle.std.proofs.lemmas.Iterator.{empty_from_Zip}
+use Rattle.std.proofs.lemmas.Slice.Zip.{Zip-more}
+use lib.ListN.{length}
+use Rattle.compatibility.specs.Pairs.{lists_compatible}
 use mathlib.Core.Bool.{true, false, not}
 use native.Mathlib.Omega.{arith}
 use Rattle.resolution.specs.Compatible.{are_types_compatible}
 use Rattle.type_table.specs.Layout.{table_of, AllBelow}
+use Rattle.type_table.proofs.Laws.{below_rest}
 use Rattle.compatibility.proofs.Store.{mark}
 use Rattle.compatibility.proofs.ByKind.{Apart, apart_pointer, apart_array, apart_tuple, apart_plain, or_first, or_second}
 use Rattle.compatibility.proofs.Compared.{numbers_equal, rows_tested, pointer_below, array_below, tuple_below, rows_pointer, rows_sizes, rows_array, rows_tuple, rows_apart, lists_step, lists_stop, lists_end, lists_length}
@@ -32,25 +37,36 @@ compatible-returns-clause-value t c =
     let types = c.args.types.now in
     rows_tested types.file.now types.words.now types.table_ok c.args.actual c.args.expected c.if-actual-expected.false (c.compatible_rows.result) false (c.compatible_rows.ensures.value) c.if-compatible_rows.false
 
-pub compatible_lists-returns-then-count-right-clause-value : goal.compatible_lists-returns-then-count-right-clause-value
-compatible_lists-returns-then-count-right-clause-value t c =
+pub compatible_lists-returns-then-left-right-clause-value : goal.compatible_lists-returns-then-left-right-clause-value
+compatible_lists-returns-then-left-right-clause-value t c =
     let types = c.args.types.now in
-    lists_length types.file.now types.words.now c.args.left.now c.args.right.now c.if-count-right.true
+    lists_length types.file.now types.words.now c.args.left.now c.args.right.now c.if-left-right.true
 
 pub compatible_lists-returns-then-not-compatible-clause-value : goal.compatible_lists-returns-then-not-compatible-clause-value
 compatible_lists-returns-then-not-compatible-clause-value t c =
     let types = c.args.types.now in
-    lists_stop types.file.now types.words.now c.args.left.now c.args.right.now c.loop-i.i c.loop-i.invariant.4 (omega arith) (omega arith) c.compatible.result c.compatible.ensures.value (ap not c.if-not-compatible.true)
+    let both = Zip-more c.loop-x.x-iterator c.next.new.self _ _ c.in-Some.is c.next.ensures.steps in
+    sym (c.loop-x.invariant.rest ∙ ap₂ (lists_compatible (table_of types.file.now types.words.now)) both.0 both.1
+    ∙ lists_stop types.file.now types.words.now c.in-Some.x.now c.in-Some.y.now _ _ c.compatible.result c.compatible.ensures.value (ap not c.if-not-compatible.true))
 
-pub compatible_lists-loop-i-preserved : goal.compatible_lists-loop-i-preserved
-compatible_lists-loop-i-preserved t c =
+pub compatible_lists-loop-x-preserved : goal.compatible_lists-loop-x-preserved
+compatible_lists-loop-x-preserved t c =
     let types = c.args.types.now in
-    (omega arith, c.loop-i.invariant.1, c.loop-i.invariant.2, c.compatible.ensures.remembers_2, lists_step types.file.now types.words.now c.args.left.now c.args.right.now c.loop-i.i c.loop-i.invariant.4 (omega arith) (omega arith) c.compatible.result c.compatible.ensures.value (ap not c.if-not-compatible.false))
+    let both = Zip-more c.loop-x.x-iterator c.next.new.self _ _ c.in-Some.is c.next.ensures.steps in
+    record {
+      same_length = omega (arith, c.loop-x.invariant.same_length, ap length both.0, ap length both.1);
+      left_below = below_rest _ both.0 c.loop-x.invariant.left_below;
+      right_below = below_rest _ both.1 c.loop-x.invariant.right_below;
+      remembers = c.compatible.ensures.remembers_2;
+      rest = c.loop-x.invariant.rest ∙ ap₂ (lists_compatible (table_of types.file.now types.words.now)) both.0 both.1
+          ∙ lists_step types.file.now types.words.now c.in-Some.x.now c.in-Some.y.now _ _ c.compatible.result c.compatible.ensures.value (ap not c.if-not-compatible.false);
+    }
 
 pub compatible_lists-returns-clause-value : goal.compatible_lists-returns-clause-value
 compatible_lists-returns-clause-value t c =
     let types = c.args.types.now in
-    lists_end types.file.now types.words.now c.args.left.now c.args.right.now c.loop-i.i c.loop-i.invariant.4 (omega arith) (omega arith)
+    let spent = empty_from_Zip _ c.next.new.self _ c.in-None.is c.next.ensures.steps c.loop-x.invariant.same_length in
+    sym (c.loop-x.invariant.rest ∙ ap₂ (lists_compatible (table_of types.file.now types.words.now)) spent.0 spent.1 ∙ lists_end types.file.now types.words.now)
 
 pub compatible_rows-compatible-requires : goal.compatible_rows-compatible-requires
 compatible_rows-compatible-requires t c =

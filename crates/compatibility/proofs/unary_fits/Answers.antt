@@ -5,7 +5,7 @@ use Rattle.compatibility.proofs.Scan.{same_unary}
 use Rattle.compatibility.proofs.unary_fits.Goals as goal
 
 pub returns-then-eq : goal.returns-then-eq
-returns-then-eq c = go_on _ _ _ (sym (c.eq.ensures ∙ same_unary c.args.row.now.0 c.args.op) ∙ c.if-eq.true) c.compare.ensures
+returns-then-eq c = go_on _ _ _ (sym (c.eq.ensures ∙ same_unary c.args.row.now.op c.args.op) ∙ c.if-eq.true) c.are_types_compatible.ensures
 
 pub returns-else-eq : goal.returns-else-eq
-returns-else-eq c = c.if-eq.false ∙ stop _ _ (sym (c.eq.ensures ∙ same_unary c.args.row.now.0 c.args.op) ∙ c.if-eq.false)
+returns-else-eq c = c.if-eq.false ∙ stop _ _ (sym (c.eq.ensures ∙ same_unary c.args.row.now.op c.args.op) ∙ c.if-eq.false)

@@ -1,27 +1,30 @@
 -- `line_text::write_fields` meets its contract: its parts one behind the other, and then all of it where there is room. Assumes nothing.
-use Prim.Native.Nat.{zero-le}
-use mathlib.Core.Path.{◌≡◌, sym, subst, ◌∙◌}
+use mathlib.Core.Path.{◌≡◌, sym, ap, ap₂, ◌∙◌}
 use mathlib.Core.List.{◌++◌}
-use native.Mathlib.Nat.{zero-add}
 use native.Mathlib.Omega.{arith}
-use lib.ListN.{length, take}
+use lib.ListN.{length, drop}
 use Rattle.model.specs.Common.{bytes}
 use Rattle.views.specs.Asking.{asked_of}
 use Rattle.resolution.specs.Answer.{asked_lead}
-use Rattle.type_text.specs.Text.{Wrote}
-use Rattle.type_text.proofs.Writing.{wrote_then, wrote_take}
-use Rattle.line_text.specs.Lines.{LinePut}
-use Rattle.line_text.proofs.Lines.{line_put}
+use Rattle.type_text.proofs.Writing.{writes_then, start_is}
 use Rattle.line_text.proofs.write_fields.Goals as goal
 
 pub returns : goal.returns
 returns c =
     let lead = asked_lead (asked_of c.args.asked) in
-    let all =
-    wrote_then lead (c.args.fields.now ++ bytes "\n") _ _ _ _ _ _ zero-le c.put_lead-named.ensures.wrote
-    (wrote_then c.args.fields.now (bytes "\n") _ _ _ _ _ _ (omega (arith, c.requires, c.put_lead-named.ensures.few, c.put_lead-named.auto.out)) c.put-behind.ensures c.put-end.ensures) in
     let line = lead ++ (c.args.fields.now ++ bytes "\n") in
-    let front : take c.put-end.result c.put-end.new.out ≡ line = wrote_take line _ _ _ _ (omega (arith, c.requires, all.next, c.put_lead-named.auto.out, c.put_lead-named.ensures.few, c.put-behind.ensures.next, c.put-end.ensures.next)) all in
-    let put = line_put line c.args.out.now c.put.new.out c.put.result (omega (arith, all.next, c.if-out-end.false)) (subst (λ l. Wrote l 0 c.args.out.now c.put.new.out c.put.result) front c.put.ensures) in
-    let same : c.put.result ≡ c.put-end.result = put.long ∙ sym (all.next ∙ zero-add (length line)) in
-    subst (LinePut line c.args.out.now c.put.new.out) same put
+    let begun = c.new-writer.ensures in
+    let led = c.put_lead.ensures in
+    let all =
+    writes_then lead (c.args.fields.now ++ bytes "\n") _ _ _ (omega (arith, begun.at)) led.writes
+    (writes_then c.args.fields.now (bytes "\n") _ _ _ (omega (arith, led.few, led.writes.wrote.next, led.writes.long, begun.at, ap length begun.bytes)) c.put.ensures c.put-2.ensures) in
+    let long : c.put-2.new.self.at ≡ length line = omega (arith, all.wrote.next, begun.at) in
+    let front =
+    start_is line _ _ _ _ begun.bytes begun.at (c.line-2-1.given.1.1 (sym begun.same_buffer ∙ sym all.same_buffer))
+    (omega (arith, all.wrote.next, c.put-2.ensures.wrote.next, c.put.ensures.wrote.next, led.writes.wrote.next, led.few, c.requires, begun.at, ap length begun.bytes))
+    all in
+    record {
+      long = long;
+      fits = c.if-out-end.false;
+      bytes = ap₂ (λ l n. l ++ drop n c.args.out.now) (c.copy_from_slice.ensures.after ∙ front) long;
+    }

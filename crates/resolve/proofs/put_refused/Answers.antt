@@ -1,56 +1,67 @@
 -- `resolve::put_refused` meets its contract: its parts one behind the other. Assumes nothing.
-use Prim.Native.Nat.{zero-le}
+use mathlib.Core.Path.{sym, ap, ◌∙◌}
 use native.Mathlib.Omega.{arith}
+use lib.ListN.{length}
 use Rattle.std.proofs.Common.{◌++◌}
 use Rattle.model.specs.Common.{bytes}
 use Rattle.resolution.specs.Answer.{decimal}
 use Rattle.resolution.specs.Resolve.{refusal_line}
-use Rattle.type_text.proofs.Writing.{wrote_then}
+use Rattle.type_text.proofs.Writing.{writes_then, from_start}
 use Rattle.line_text.proofs.Lines.{ten_digits}
 use Rattle.resolve.proofs.put_refused.Goals as goal
 
-pub put_decimal-first-requires : goal.put_decimal-first-requires
-put_decimal-first-requires c =
-    let word = c.put-word in
-    omega (arith, c.requires, word.ensures.next, word.auto.out, ten_digits c.args.number c.ranges.number.fits)
-
-pub put-tab-requires : goal.put-tab-requires
-put-tab-requires c =
-    let word = c.put-word in
-    let first = c.put_decimal-first in
-    omega (arith, c.requires, word.ensures.next, word.auto.out, ten_digits c.args.number c.ranges.number.fits, first.ensures.next, first.auto.out)
-
-pub put_decimal-second-requires : goal.put_decimal-second-requires
-put_decimal-second-requires c =
-    let word = c.put-word in
-    let first = c.put_decimal-first in
-    let tab = c.put-tab in
-    omega (arith, c.requires, word.ensures.next, word.auto.out, ten_digits c.args.number c.ranges.number.fits, first.ensures.next, first.auto.out, tab.ensures.next, tab.auto.out, ten_digits c.args.line c.ranges.line.fits)
-
 pub put-requires : goal.put-requires
-put-requires c =
-    let word = c.put-word in
-    let first = c.put_decimal-first in
-    let tab = c.put-tab in
-    let second = c.put_decimal-second in
-    omega (arith, c.requires, word.ensures.next, word.auto.out, ten_digits c.args.number c.ranges.number.fits, first.ensures.next, first.auto.out, tab.ensures.next, tab.auto.out, ten_digits c.args.line c.ranges.line.fits, second.ensures.next, second.auto.out)
+put-requires c = omega (arith, c.requires, c.new-writer.ensures.at, ap length c.new-writer.ensures.bytes)
+
+pub put_decimal-requires : goal.put_decimal-requires
+put_decimal-requires c =
+    let begun = c.new-writer.ensures in
+    let word = c.put.ensures in
+    omega (arith, c.requires, begun.at, ap length begun.bytes, word.wrote.next, word.long, ten_digits c.args.number c.ranges.number.fits)
+
+pub put-requires-2 : goal.put-requires-2
+put-requires-2 c =
+    let begun = c.new-writer.ensures in
+    let word = c.put.ensures in
+    let first = c.put_decimal.ensures in
+    omega (arith, c.requires, begun.at, ap length begun.bytes, word.wrote.next, word.long, ten_digits c.args.number c.ranges.number.fits, first.wrote.next, first.long)
+
+pub put_decimal-requires-2 : goal.put_decimal-requires-2
+put_decimal-requires-2 c =
+    let begun = c.new-writer.ensures in
+    let word = c.put.ensures in
+    let first = c.put_decimal.ensures in
+    let tab = c.put-2.ensures in
+    omega (arith, c.requires, begun.at, ap length begun.bytes, word.wrote.next, word.long, ten_digits c.args.number c.ranges.number.fits, first.wrote.next, first.long, tab.wrote.next, tab.long, ten_digits c.args.line c.ranges.line.fits)
+
+pub put-requires-3 : goal.put-requires-3
+put-requires-3 c =
+    let begun = c.new-writer.ensures in
+    let word = c.put.ensures in
+    let first = c.put_decimal.ensures in
+    let tab = c.put-2.ensures in
+    let second = c.put_decimal-2.ensures in
+    omega (arith, c.requires, begun.at, ap length begun.bytes, word.wrote.next, word.long, ten_digits c.args.number c.ranges.number.fits, first.wrote.next, first.long, tab.wrote.next, tab.long, ten_digits c.args.line c.ranges.line.fits, second.wrote.next, second.long)
 
 pub returns : goal.returns
 unfolding refusal_line
 returns c =
     let a = c.args in
-    let one = c.put-word in
-    let two = c.put_decimal-first in
-    let three = c.put-tab in
-    let four = c.put_decimal-second in
-    let five = c.put in
+    let begun = c.new-writer.ensures in
+    let room = ap length begun.bytes in
+    let one = c.put.ensures in
+    let two = c.put_decimal.ensures in
+    let three = c.put-2.ensures in
+    let four = c.put_decimal-2.ensures in
+    let five = c.put-3.ensures in
     let m = ten_digits a.number c.ranges.number.fits in
     let n = ten_digits a.line c.ranges.line.fits in
+    let all =
+    writes_then (bytes "refused\t") (decimal a.number ++ (bytes "\t" ++ (decimal a.line ++ bytes "\n"))) _ _ _ (omega (arith, begun.at)) one
+    (writes_then (decimal a.number) (bytes "\t" ++ (decimal a.line ++ bytes "\n")) _ _ _ (omega (arith, c.requires, begun.at, room, one.wrote.next, one.long)) two
+    (writes_then (bytes "\t") (decimal a.line ++ bytes "\n") _ _ _ (omega (arith, c.requires, begun.at, room, m, one.wrote.next, one.long, two.wrote.next, two.long)) three
+    (writes_then (decimal a.line) (bytes "\n") _ _ _ (omega (arith, c.requires, begun.at, room, m, one.wrote.next, one.long, two.wrote.next, two.long, three.wrote.next, three.long)) four five))) in
     record {
-      wrote =
-          wrote_then (bytes "refused\t") (decimal a.number ++ (bytes "\t" ++ (decimal a.line ++ bytes "\n"))) _ _ _ _ _ _ zero-le one.ensures
-          (wrote_then (decimal a.number) (bytes "\t" ++ (decimal a.line ++ bytes "\n")) _ _ _ _ _ _ (omega (arith, c.requires, one.ensures.next, one.auto.out)) two.ensures
-          (wrote_then (bytes "\t") (decimal a.line ++ bytes "\n") _ _ _ _ _ _ (omega (arith, c.requires, m, one.ensures.next, one.auto.out, two.ensures.next, two.auto.out)) three.ensures
-          (wrote_then (decimal a.line) (bytes "\n") _ _ _ _ _ _ (omega (arith, c.requires, m, one.ensures.next, one.auto.out, two.ensures.next, two.auto.out, three.ensures.next, three.auto.out)) four.ensures five.ensures)));
-      few = omega (arith, c.requires, m, n, one.ensures.next, two.ensures.next, three.ensures.next, four.ensures.next, five.ensures.next);
+      wrote = from_start _ _ _ _ _ begun.bytes begun.at (c.out-1.given.1.1 (sym begun.same_buffer ∙ sym all.same_buffer)) all;
+      few = omega (arith, begun.at, m, n, one.wrote.next, two.wrote.next, three.wrote.next, four.wrote.next, five.wrote.next);
     }

@@ -181,7 +181,7 @@ unfolding call_type
 call-returns-in_default-signature_of t c = if_false _ _ _ c.callee_is_builtin.ensures.same c.if-callee_is_builtin.false (some_runs _ _ _ (ap expression_link_of c.in-Some.is) (then_given c.expr_type.ensures _ c.in_ok-t.was (data_runs _ _ (none_runs _ _ _ (sym (c.signature_of.ensures.same _) ∙ ap (found_signature_of _) c.in_default-signature_of.is) (answers c.expr_type.ensures.ready refl)))))
 
 pub call-args-requires : goal.call-args-requires
-call-args-requires t c = (omega (arith, c.decreases), (c.expr_type.ensures.ready, c.signature_of.ensures.within _ c.expr_type.ensures.ready.sound _ _ c.in-Some-signature_of.is))
+call-args-requires t c = (omega (arith, c.decreases), (c.expr_type.ensures.ready, c.signature_of.ensures.within _ c.expr_type.ensures.ready.sound _ c.in-Some-signature_of.is))
 
 pub call-returns-in_err-args : goal.call-returns-in_err-args
 unfolding call_type
@@ -324,19 +324,19 @@ pub empty-returns-in_default-array_of : goal.empty-returns-in_default-array_of
 unfolding empty_array_type empty_array_in
 empty-returns-in_default-array_of t c = none_runs _ _ _ c.in_default.is (some_runs _ _ _ (ap type_link_of c.in-Some-expected.is) (then_given c.ast_type.ensures _ c.in_ok-x.was (data_runs _ _ (none_runs _ _ _ (no_array _ (c.array_of.ensures _) c.in_default-array_of.is) (answers c.ast_type.ensures.ready refl)))))
 
-pub empty-intern_array-requires-then-size-eq0-clause-sound : goal.empty-intern_array-requires-then-size-eq0-clause-sound
-empty-intern_array-requires-then-size-eq0-clause-sound t c = c.ast_type.ensures.ready.sound
+pub empty-intern_array-requires-then-array-eq0-clause-sound : goal.empty-intern_array-requires-then-array-eq0-clause-sound
+empty-intern_array-requires-then-array-eq0-clause-sound t c = c.ast_type.ensures.ready.sound
 
-pub empty-intern_array-requires-then-size-eq0-clause-element_bound : goal.empty-intern_array-requires-then-size-eq0-clause-element_bound
-empty-intern_array-requires-then-size-eq0-clause-element_bound t c = element_below c.ast_type.ensures.ready _ (is_array _ (c.array_of.ensures _) c.in-Some-array_of.is)
+pub empty-intern_array-requires-then-array-eq0-clause-element_bound : goal.empty-intern_array-requires-then-array-eq0-clause-element_bound
+empty-intern_array-requires-then-array-eq0-clause-element_bound t c = element_below c.ast_type.ensures.ready _ (is_array _ (c.array_of.ensures _) c.in-Some-array_of.is)
 
-pub empty-returns-then-size-eq0 : goal.empty-returns-then-size-eq0
+pub empty-returns-then-array-eq0 : goal.empty-returns-then-array-eq0
 unfolding empty_array_type empty_array_in
-empty-returns-then-size-eq0 t c = none_runs _ _ _ c.in_default.is (some_runs _ _ _ (ap type_link_of c.in-Some-expected.is) (then_given c.ast_type.ensures _ c.in_ok-x.was (data_runs _ _ (some_runs _ _ _ (is_array _ (c.array_of.ensures _) c.in-Some-array_of.is) (if_true _ _ _ (sym (eq-eqb _ _ c.if-size-eq0.true)) refl (interns_runs c.ast_type.ensures.ready c.intern_array-then-size-eq0.ensures))))))
+empty-returns-then-array-eq0 t c = none_runs _ _ _ c.in_default.is (some_runs _ _ _ (ap type_link_of c.in-Some-expected.is) (then_given c.ast_type.ensures _ c.in_ok-x.was (data_runs _ _ (some_runs _ _ _ (is_array _ (c.array_of.ensures _) c.in-Some-array_of.is) (if_true _ _ _ (sym (eq-eqb _ _ c.if-array-eq0.true)) refl (interns_runs c.ast_type.ensures.ready c.intern_array-then-array-eq0.ensures))))))
 
-pub empty-returns-else-size-eq0 : goal.empty-returns-else-size-eq0
+pub empty-returns-else-array-eq0 : goal.empty-returns-else-array-eq0
 unfolding empty_array_type empty_array_in
-empty-returns-else-size-eq0 t c = none_runs _ _ _ c.in_default.is (some_runs _ _ _ (ap type_link_of c.in-Some-expected.is) (then_given c.ast_type.ensures _ c.in_ok-x.was (data_runs _ _ (some_runs _ _ _ (is_array _ (c.array_of.ensures _) c.in-Some-array_of.is) (if_false _ _ _ (sym (ne_eqb _ _ c.if-size-eq0.false)) refl (answers c.ast_type.ensures.ready refl))))))
+empty-returns-else-array-eq0 t c = none_runs _ _ _ c.in_default.is (some_runs _ _ _ (ap type_link_of c.in-Some-expected.is) (then_given c.ast_type.ensures _ c.in_ok-x.was (data_runs _ _ (some_runs _ _ _ (is_array _ (c.array_of.ensures _) c.in-Some-array_of.is) (if_false _ _ _ (sym (ne_eqb _ _ c.if-array-eq0.false)) refl (answers c.ast_type.ensures.ready refl))))))
 
 pub expr_type-returns-in_err-next : goal.expr_type-returns-in_err-next
 expr_type-returns-in_err-next t c = entered_stops c.requires c.enter.ensures c.in_err-next.was (is_handed_on _ _ c.from_residual.ensures)

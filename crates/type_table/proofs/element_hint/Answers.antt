@@ -8,18 +8,18 @@ use Rattle.type_table.specs.Reads.{element_hint_read, array_read}
 use Rattle.type_table.proofs.Reading.{some_read, none_read}
 use Rattle.type_table.proofs.element_hint.Goals as goal
 
-pub returns-in_err-t : goal.returns-in_err-t
+pub returns-in_err-context : goal.returns-in_err-context
 unfolding element_hint_read element_hint
-returns-in_err-t c =
-    λ file. record { same = c.from_residual.ensures ∙ ap (element_hint (table_of file c.args.types.now)) (sym c.in_err-t.was) }
+returns-in_err-context c =
+    λ file. record { same = c.from_residual.ensures ∙ ap (element_hint (table_of file c.args.types.now)) (sym c.in_err-context.was) }
 
-pub returns-in_err-element : goal.returns-in_err-element
+pub returns-in_err-array : goal.returns-in_err-array
 unfolding element_hint_read element_hint array_read
-returns-in_err-element c =
+returns-in_err-array c =
     λ file. record {
       same =
-          c.from_residual-in_err-element.ensures ∙ none_read None (λ array. Some array.element) (c.array_of.ensures file).same (ap found_array_of c.in_err-element.was)
-          ∙ ap (element_hint (table_of file c.args.types.now)) (sym c.in_ok-t.was);
+          c.from_residual-in_err-array.ensures ∙ none_read None (λ array. Some array.element) (c.array_of.ensures file).same (ap found_array_of c.in_err-array.was)
+          ∙ ap (element_hint (table_of file c.args.types.now)) (sym c.in_ok-context.was);
     }
 
 pub returns : goal.returns
@@ -27,6 +27,6 @@ unfolding element_hint_read element_hint array_read
 returns c =
     λ file. record {
       same =
-          some_read None (λ array. Some array.element) (c.array_of.ensures file).same (ap found_array_of c.in_ok-element.was)
-          ∙ ap (element_hint (table_of file c.args.types.now)) (sym c.in_ok-t.was);
+          some_read None (λ array. Some array.element) (c.array_of.ensures file).same (ap found_array_of c.in_ok-array.was)
+          ∙ ap (element_hint (table_of file c.args.types.now)) (sym c.in_ok-context.was);
     }

@@ -1,26 +1,24 @@
--- `type_table::field_type` meets its contract. Assumes nothing.
-use mathlib.Core.Path.{sym, ap, ap₂, ◌∙◌}
+-- `type_table::field_type` meets its contract: the type beside the first such name. Assumes nothing.
+use mathlib.Core.Path.{ap₂, ◌∙◌}
+use Prim.Native.Nat.{ℕ}
+use Rattle.std.proofs.Common.{rules, tests}
+use Rattle.std.proofs.lemmas.Iterator.{YieldsList-from_slice, YieldsList-from_zip}
+use Rattle.std.proofs.lemmas.Iterator.Search.{find_from_yields_List}
 use Rattle.model.specs.Common.{eq_numbers}
+use Rattle.records.specs.Layout.{name_by}
 use Rattle.records.specs.Meaning.{name_of}
 use Rattle.resolution.specs.Types.{field_type}
 use Rattle.type_table.specs.Layout.{fields_of}
-use Rattle.type_table.proofs.Search.{field_here, field_there, field_none}
-use native.Mathlib.Omega.{arith}
+use Rattle.type_table.proofs.Search.{field_found}
 use Rattle.type_table.proofs.field_type.Goals as goal
-
-pub returns-then-same_name : goal.returns-then-same_name
-returns-then-same_name c =
-    sym (ap₂ (λ x y. field_type (fields_of c.args.file.now x y) (name_of c.args.file.now c.args.name)) (sym c.words_from-names.ensures) (sym c.types_in-items.ensures) ∙ c.loop-i.invariant.2 ∙ field_here c.args.file.now c.words_from-names.result.now c.types_in-items.result.now (name_of c.args.file.now c.args.name) c.loop-i.i (omega arith) (omega arith)
-    (ap (λ l. eq_numbers l (name_of c.args.file.now c.args.name)) (sym (c.name_of.ensures c.args.file.now)) ∙ sym c.same_name.ensures ∙ c.if-same_name.true))
-
-pub loop-i-preserved : goal.loop-i-preserved
-loop-i-preserved c = (
-  omega arith,
-  c.loop-i.invariant.1,
-  c.loop-i.invariant.2 ∙ field_there c.args.file.now c.words_from-names.result.now c.types_in-items.result.now (name_of c.args.file.now c.args.name) c.loop-i.i (omega arith) (omega arith)
-      (ap (λ l. eq_numbers l (name_of c.args.file.now c.args.name)) (sym (c.name_of.ensures c.args.file.now)) ∙ sym c.same_name.ensures ∙ c.if-same_name.false),
-)
 
 pub returns : goal.returns
 returns c =
-    sym (ap₂ (λ x y. field_type (fields_of c.args.file.now x y) (name_of c.args.file.now c.args.name)) (sym c.words_from-names.ensures) (sym c.types_in-items.ensures) ∙ c.loop-i.invariant.2 ∙ field_none c.args.file.now c.words_from-names.result.now c.types_in-items.result.now (name_of c.args.file.now c.args.name) c.loop-i.i c.loop-i-test.false)
+    let file = c.args.file.now in
+    let name = name_of file c.args.name in
+    let names = c.words_from-names.result.now in
+    let items = c.types_in.result.now in
+    field_found file name names items c.find.result c.map.result
+    (find_from_yields_List (λ (p : ℕ × ℕ). eq_numbers (name_by file p.0) name) c.find.new.self _ c.find.result c.find.ensures.ran (YieldsList-from_zip (YieldsList-from_slice names cc) (YieldsList-from_slice items cc)) (λ x b q k. search (rules, tests)))
+    (search (rules, tests))
+    ∙ ap₂ (λ x y. field_type (fields_of file x y) name) c.words_from-names.ensures c.types_in.ensures

@@ -9,10 +9,10 @@ unfolding data_from data_by row_types
 intern-requires-clause-all_below c =
     below_cons _ _ c.args.params.now c.requires.return_type_bound c.requires.all_below
 
-pub intern-requires-clause-canonical : goal.intern-requires-clause-canonical
+pub invariant_of-intern : goal.invariant_of-intern
 unfolding data_from data_by row_types
-intern-requires-clause-canonical c =
-    function_canonical c.args.file.now c.args.m c.args.d c.args.return_type c.args.params.now
+invariant_of-intern c =
+    record { canonical = function_canonical c.args.file.now c.args.m c.args.d c.args.return_type c.args.params.now }
 
 pub returns : goal.returns
 unfolding data_from data_by

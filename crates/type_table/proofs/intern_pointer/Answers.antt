@@ -10,10 +10,10 @@ unfolding data_from data_by row_types
 intern-requires-clause-all_below c =
     below_cons _ _ [] c.requires.element_bound (below_none _)
 
-pub intern-requires-clause-canonical : goal.intern-requires-clause-canonical
+pub invariant_of-intern : goal.invariant_of-intern
 unfolding data_from data_by row_types
-intern-requires-clause-canonical c =
-    pointer_canonical c.args.file.now c.args.element
+invariant_of-intern c =
+    record { canonical = pointer_canonical c.args.file.now c.args.element }
 
 pub returns : goal.returns
 unfolding data_from data_by

@@ -9,10 +9,10 @@ unfolding data_from data_by row_types
 intern-requires-clause-all_below c =
     c.requires.all_below
 
-pub intern-requires-clause-canonical : goal.intern-requires-clause-canonical
+pub invariant_of-intern : goal.invariant_of-intern
 unfolding data_from data_by row_types
-intern-requires-clause-canonical c =
-    tuple_canonical c.args.file.now c.args.elements.now
+invariant_of-intern c =
+    record { canonical = tuple_canonical c.args.file.now c.args.elements.now }
 
 pub returns : goal.returns
 unfolding data_from data_by

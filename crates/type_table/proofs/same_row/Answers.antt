@@ -15,9 +15,9 @@ pub returns-then-eq-2 : goal.returns-then-eq-2
 unfolding same_rows same_heads
 returns-then-eq-2 c = elim c.if-eq.branch [
   | then-eq w ↦
-      go_on _ _ _ (ap (same_heads c.args.head) (sym c.head_of.ensures) ∙ sym c.eq.ensures ∙ w.if-eq.true)
-      (go_on _ _ _ (ap (eq_numbers c.args.items.now) (sym w.items_of.ensures) ∙ sym (same_numbers _ _) ∙ sym w.eq-then-eq.ensures ∙ sym w.value-is ∙ c.if-eq-2.true)
-      (c.same_names.ensures ∙ ap (λ l. eq_names (map (name_by c.args.file.now) c.args.names.now) (map (name_by c.args.file.now) l)) c.names_of.ensures))
+      go_on _ _ _ (ap (same_heads c.args.new.now.head) (sym c.head_at.ensures) ∙ sym c.eq.ensures ∙ w.if-eq.true)
+      (go_on _ _ _ (ap (eq_numbers c.args.new.now.items.now) (sym w.items_at.ensures) ∙ sym (same_numbers _ _) ∙ sym w.eq-then-eq.ensures ∙ sym w.value-is ∙ c.if-eq-2.true)
+      (c.same_names.ensures ∙ ap (λ l. eq_names (map (name_by c.args.new.now.file.now) c.args.new.now.names.now) (map (name_by c.args.new.now.file.now) l)) c.names_at.ensures))
   | else-eq w ↦
       absurd (true≢false (sym c.if-eq-2.true ∙ w.value-is ∙ w.if-eq.false))
 ]
@@ -26,8 +26,8 @@ pub returns-else-eq-2 : goal.returns-else-eq-2
 unfolding same_rows same_heads
 returns-else-eq-2 c = elim c.if-eq.branch [
   | then-eq w ↦
-      c.if-eq-2.false ∙ go_on _ _ _ (ap (same_heads c.args.head) (sym c.head_of.ensures) ∙ sym c.eq.ensures ∙ w.if-eq.true)
-      (stop _ _ (ap (eq_numbers c.args.items.now) (sym w.items_of.ensures) ∙ sym (same_numbers _ _) ∙ sym w.eq-then-eq.ensures ∙ sym w.value-is ∙ c.if-eq-2.false))
+      c.if-eq-2.false ∙ go_on _ _ _ (ap (same_heads c.args.new.now.head) (sym c.head_at.ensures) ∙ sym c.eq.ensures ∙ w.if-eq.true)
+      (stop _ _ (ap (eq_numbers c.args.new.now.items.now) (sym w.items_at.ensures) ∙ sym (same_numbers _ _) ∙ sym w.eq-then-eq.ensures ∙ sym w.value-is ∙ c.if-eq-2.false))
   | else-eq w ↦
-      c.if-eq-2.false ∙ stop _ _ (ap (same_heads c.args.head) (sym c.head_of.ensures) ∙ sym c.eq.ensures ∙ w.if-eq.false)
+      c.if-eq-2.false ∙ stop _ _ (ap (same_heads c.args.new.now.head) (sym c.head_at.ensures) ∙ sym c.eq.ensures ∙ w.if-eq.false)
 ]

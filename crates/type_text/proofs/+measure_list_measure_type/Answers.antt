@@ -1,24 +1,35 @@
 -- Types and lists measured: an element has a lower number than its holder, so the calls end. Assumes nothing.
-use mathlib.Core.Path.{◌≡◌, sym, ap, ◌∙◌}
-use borrow.Author.Tests.{eqb-true, eqb-false}
+use Prim.Native.Nat.{zero-le}
+use Rattle.type_table.proofs.Laws.{below_rest}
+use Rattle.type_text.specs.Text.{comma_rest}
+use mathlib.Core.Path.{ap}
 use native.Mathlib.Omega.{arith}
 use lib.ListN.{length}
 use Rattle.model.specs.Common.{bytes}
 use Rattle.resolution.specs.Answer.{type_text}
 use Rattle.type_table.specs.Layout.{table_of}
-use Rattle.type_text.proofs.Texts.{felt_is, bool_is, u32_is, unknown_is, error_is, tuple_is, pointer_is, array_is, struct_is, function_is, tuple_below, pointer_below, array_below, comma_none, comma_first, comma_step_length, tuple_text_length, pointer_text_length, array_text_length, definition_text_length}
+use Rattle.type_text.proofs.Texts.{felt_is, bool_is, u32_is, unknown_is, error_is, tuple_is, pointer_is, array_is, struct_is, function_is, tuple_below, pointer_below, array_below, comma_none, split_length, rest_step_length, rest_all, tuple_text_length, pointer_text_length, array_text_length, definition_text_length}
 use Rattle.type_text.proofs.+measure_list_measure_type.Goals as goal
 
-pub measure_list-returns-then-is_empty : goal.measure_list-returns-then-is_empty
-measure_list-returns-then-is_empty t c = omega (arith, c.requires.used_bound, ap length (comma_none (type_text (table_of c.args.types.now.file.now c.args.types.now.words.now)) c.args.list.now (eqb-true _ _ (sym c.is_empty.ensures ∙ c.if-is_empty.true))))
+pub measure_list-returns-in_default : goal.measure_list-returns-in_default
+measure_list-returns-in_default t c = omega (arith, c.requires.used_bound, ap length (comma_none (type_text (table_of c.args.types.now.file.now c.args.types.now.words.now)) c.args.list.now c.in_default.ensures.cases))
 
-pub measure_list-loop-i-init : goal.measure_list-loop-i-init
-measure_list-loop-i-init t c =
-    let some : length c.args.list.now ≡ 0 → ⊥ = eqb-false _ _ (sym c.is_empty.ensures ∙ c.if-is_empty.false) in
-    (omega (arith, some), (omega (arith, some), omega (arith, c.measure_type-next.ensures, ap length (comma_first (type_text (table_of c.args.types.now.file.now c.args.types.now.words.now)) c.args.list.now (omega (arith, some))))))
+pub measure_list-loop-t-init : goal.measure_list-loop-t-init
+unfolding comma_rest
+measure_list-loop-t-init t c = record { index = zero-le; next = omega (arith, c.measure_type-next.ensures) }
 
-pub measure_list-loop-i-preserved : goal.measure_list-loop-i-preserved
-measure_list-loop-i-preserved t c = (omega arith, (omega arith, omega (arith, c.measure_type-next-in-loop-i.ensures, c.capped.ensures, c.loop-i.invariant.1.1, comma_step_length (type_text (table_of c.args.types.now.file.now c.args.types.now.words.now)) c.args.list.now c.loop-i.i c.loop-i.invariant.0 c.loop-i-test.true)))
+pub measure_list-measure_type-next-requires-in-loop-t : goal.measure_list-measure_type-next-requires-in-loop-t
+measure_list-measure_type-next-requires-in-loop-t t c = (omega (arith, below_rest _ c.in-Some.ensures.cases.0 c.requires.all_below c.loop-t.t-index c.loop-t-test.true), omega (arith, c.capped.ensures))
+
+pub measure_list-loop-t-preserved : goal.measure_list-loop-t-preserved
+measure_list-loop-t-preserved t c = record {
+  index = omega arith;
+  next = omega (arith, c.measure_type-next-in-loop-t.ensures, c.capped.ensures, c.loop-t.invariant.next, rest_step_length (type_text (table_of c.args.types.now.file.now c.args.types.now.words.now)) c.in-Some.rest.now c.loop-t.t-index c.loop-t-test.true);
+}
+
+pub measure_list-returns : goal.measure_list-returns
+measure_list-returns t c =
+    omega (arith, c.loop-t.invariant.next, c.measure_type-next.ensures, split_length (type_text (table_of c.args.types.now.file.now c.args.types.now.words.now)) c.args.list.now _ c.in-Some.ensures.cases.0, ap length (rest_all (type_text (table_of c.args.types.now.file.now c.args.types.now.words.now)) c.in-Some.rest.now c.loop-t.t-index c.loop-t-test.false))
 
 pub measure_type-measure_list-requires : goal.measure_type-measure_list-requires
 measure_type-measure_list-requires t c = (omega arith, (omega (arith, c.capped-in-Tuple.ensures), tuple_below c.args.types.now.file.now c.args.types.now.words.now c.args.t c.data.result c.data.ensures c.in-Tuple.elements c.in-Tuple.is c.types_in-list.result.now c.types_in-list.ensures c.args.types.now.sound))
@@ -54,7 +65,7 @@ pub measure_type-returns-in-FixedArray : goal.measure_type-returns-in-FixedArray
 measure_type-returns-in-FixedArray t c = omega (arith, c.measure_type-in-FixedArray.ensures, c.capped-in-FixedArray.ensures, c.decimal_length-digits.ensures.count, array_text_length (type_text (table_of c.args.types.now.file.now c.args.types.now.words.now)) c.in-FixedArray.element c.in-FixedArray.size, ap length (array_is c.args.types.now.file.now c.args.types.now.words.now c.args.t c.data.result c.data.ensures c.args.types.now.table_ok c.in-FixedArray.element c.in-FixedArray.size c.in-FixedArray.is))
 
 pub measure_type-returns-in-Struct : goal.measure_type-returns-in-Struct
-measure_type-returns-in-Struct t c = omega (arith, c.capped-in-Struct.ensures, c.decimal_length-first.ensures.count, c.decimal_length-second.ensures.count, definition_text_length (bytes "struct:") c.in-Struct.home c.in-Struct.definition, ap length (struct_is c.args.types.now.file.now c.args.types.now.words.now c.args.t c.data.result c.data.ensures c.args.types.now.table_ok c.in-Struct.home c.in-Struct.definition c.in-Struct.field-2 c.in-Struct.is))
+measure_type-returns-in-Struct t c = omega (arith, c.capped-in-Struct.ensures, c.decimal_length-first.ensures.count, c.decimal_length-second.ensures.count, definition_text_length (bytes "struct:") c.in-Struct.home c.in-Struct.definition, ap length (struct_is c.args.types.now.file.now c.args.types.now.words.now c.args.t c.data.result c.data.ensures c.args.types.now.table_ok c.in-Struct.home c.in-Struct.definition c.in-Struct.fields c.in-Struct.is))
 
 pub measure_type-returns-in-Function : goal.measure_type-returns-in-Function
-measure_type-returns-in-Function t c = omega (arith, c.capped-in-Function.ensures, c.decimal_length-first-in-Function.ensures.count, c.decimal_length-second-in-Function.ensures.count, definition_text_length (bytes "fn:") c.in-Function.home c.in-Function.definition, ap length (function_is c.args.types.now.file.now c.args.types.now.words.now c.args.t c.data.result c.data.ensures c.args.types.now.table_ok c.in-Function.home c.in-Function.definition c.in-Function.field-2 c.in-Function.field-3 c.in-Function.is))
+measure_type-returns-in-Function t c = omega (arith, c.capped-in-Function.ensures, c.decimal_length-first-in-Function.ensures.count, c.decimal_length-second-in-Function.ensures.count, definition_text_length (bytes "fn:") c.in-Function.home c.in-Function.definition, ap length (function_is c.args.types.now.file.now c.args.types.now.words.now c.args.t c.data.result c.data.ensures c.args.types.now.table_ok c.in-Function.home c.in-Function.definition c.in-Function.params c.in-Function.return_type c.in-Function.is))

@@ -2,15 +2,20 @@
 use Prim.Native.Nat.{◌+◌, ◌*◌, ◌≤◌, min}
 use mathlib.Core.Path.{◌≡◌}
 use lib.ListN.{length, take}
-use Rattle.resolution.specs.Answer.{comma_texts, type_text}
+use Rattle.resolution.specs.Answer.{type_text}
 use Rattle.type_table.specs.Layout.{table_of}
+use Rattle.type_text.specs.Text.{comma_rest}
 use Rattle.type_text.proofs.+measure_list_measure_type.Given as goal
 
 abbrev pub decreases-measure_list : goal.decreases-measure_list
 decreases-measure_list l = 2 * l.holder
 
-abbrev pub invariant-measure_list-loop-i : goal.invariant-measure_list-loop-i
-invariant-measure_list-loop-i l = (1 ≤ l.i) × ((l.i ≤ length l.list) × (l.next ≡ min 4097 (l.used + length (comma_texts (type_text (table_of l.types.file.now l.types.words.now)) (take l.i l.list)))))
+abbrev pub invariant-measure_list-loop-t : goal.invariant-measure_list-loop-t
+invariant-measure_list-loop-t l =
+    record {
+      index : l.t-index ≤ length l.rest;
+      next : l.next ≡ min 4097 (l.initial.next + length (comma_rest (type_text (table_of l.types.file.now l.types.words.now)) (take l.t-index l.rest)));
+    }
 
 abbrev pub decreases-measure_type : goal.decreases-measure_type
 decreases-measure_type l = 2 * l.t + 1

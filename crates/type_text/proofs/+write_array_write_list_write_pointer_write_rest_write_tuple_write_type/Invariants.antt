@@ -1,10 +1,9 @@
 -- The text of a type written by its kind: an element has a lower number than its holder, so the calls end. Assumes nothing.
 use Prim.Native.Nat.{◌+◌, ◌*◌, ◌≤◌}
-use mathlib.Core.Path.{◌≡◌}
 use lib.ListN.{length, take}
 use Rattle.resolution.specs.Answer.{type_text}
 use Rattle.type_table.specs.Layout.{table_of}
-use Rattle.type_text.specs.Text.{comma_rest, Wrote}
+use Rattle.type_text.specs.Text.{comma_rest, Writes}
 use Rattle.type_text.proofs.+write_array_write_list_write_pointer_write_rest_write_tuple_write_type.Given as goal
 
 abbrev pub decreases-write_array : goal.decreases-write_array
@@ -26,4 +25,5 @@ abbrev pub decreases-write_type : goal.decreases-write_type
 decreases-write_type l = 4 * l.t + 3
 
 abbrev pub invariant-write_rest-loop-t : goal.invariant-write_rest-loop-t
-invariant-write_rest-loop-t l = (l.t-index ≤ length l.list) × ((length l.out ≡ length l.initial.out) × Wrote (comma_rest (type_text (table_of l.types.file.now l.types.words.now)) (take l.t-index l.list)) l.at l.initial.out l.out l.next)
+invariant-write_rest-loop-t l =
+    record { index : l.t-index ≤ length l.list; writes : Writes (comma_rest (type_text (table_of l.types.file.now l.types.words.now)) (take l.t-index l.list)) l.initial.out l.out }

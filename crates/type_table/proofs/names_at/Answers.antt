@@ -1,10 +1,10 @@
--- `type_table::names_of` meets its contract. Assumes nothing.
+-- `type_table::names_at` meets its contract. Assumes nothing.
 use Prim.Native.Nat.{◌+◌, ◌*◌}
 use mathlib.Core.Path.{sym, ap, ap₂, ◌∙◌}
 use borrow.Author.Tests.{eq-eqb, ne_eqb}
 use Rattle.records.specs.Layout.{word}
 use Rattle.type_table.specs.Layout.{part, names_by}
-use Rattle.type_table.proofs.names_of.Goals as goal
+use Rattle.type_table.proofs.names_at.Goals as goal
 
 pub returns-then-word_at-eq-KIND_STRUCT : goal.returns-then-word_at-eq-KIND_STRUCT
 unfolding names_by

@@ -1,12 +1,12 @@
--- `compatibility::compare` meets its contract. Assumes nothing.
+-- `compatibility::are_types_compatible` meets its contract. Assumes nothing.
 use mathlib.Core.Path.{◌≡◌, sym, ◌∙◌}
 use mathlib.Core.Bool.{true, false}
 use Rattle.type_table.specs.Layout.{table_of}
 use Rattle.compatibility.specs.Pairs.{rows_compatible}
 use Rattle.compatibility.proofs.ByKind.{apart_pointer, apart_array, apart_tuple, apart_plain}
 use Rattle.compatibility.proofs.Compared.{numbers_equal, numbers_other, below_of, rows_left, rows_right, rows_closed}
-use Rattle.compatibility.proofs.compare.Goals as goal
-use Rattle.compatibility.proofs.compare.Goals.{then-is_error_or_unknown-via-then-is_error_or_unknown, then-is_error_or_unknown-via-else-is_error_or_unknown+then-is_error_or_unknown-2}
+use Rattle.compatibility.proofs.are_types_compatible.Goals as goal
+use Rattle.compatibility.proofs.are_types_compatible.Goals.{then-is_error_or_unknown-via-then-is_error_or_unknown, then-is_error_or_unknown-via-else-is_error_or_unknown+then-is_error_or_unknown-2}
 
 pub returns-then-actual-expected : goal.returns-then-actual-expected
 returns-then-actual-expected c =

@@ -1,8 +1,8 @@
--- `type_table::head_of` meets its contract. Assumes nothing.
+-- `type_table::head_at` meets its contract. Assumes nothing.
 use Prim.Native.Nat.{◌+◌, ◌*◌}
 use mathlib.Core.Path.{ap₂}
 use Rattle.type_table.specs.Layout.{head_at}
-use Rattle.type_table.proofs.head_of.Goals as goal
+use Rattle.type_table.proofs.head_at.Goals as goal
 
 pub returns : goal.returns
 unfolding head_at
