@@ -27,10 +27,6 @@ unfolding fault_in
 fault_begin bs = shifted_0 (first not bs)
 
 module _ (n : ℕ) where
-  pub fault_none : fault_in n [] ≡ None
-  unfolding fault_in shifted first
-  fault_none = refl
-
   module _ (b : Bool) (bs : List Bool) where
     pub fault_here : b ≡ false → fault_in n (b ∷ bs) ≡ Some n
     unfolding fault_in shifted first
@@ -124,13 +120,10 @@ each_numbered test row from n (suc count) =
     over : (a b : ℕ) → a + suc b ≡ suc (a + b)
     over a b = omega arith
 
--- over a list that begins at row `from`, and over a module's rows of a kind, with the rows' numbers or without
+-- over rows that begin at `from`, and over a module's rows of a kind, with the rows' numbers or without
 module _ {A : Type 0} (row : ℕ → A) (from count : ℕ) where
   rows_numbered : (test : ℕ → A → Bool) → each (λ k. test k (row (from + k))) 0 count ≡ map_from test 0 (each row from count)
   rows_numbered test = each_numbered test row from 0 count ∙ ap (λ a. map_from test 0 (each row a count)) (add-zero from)
-
-  pub items_tests : (test : A → Bool) → each (λ k. test (row (from + k))) 0 count ≡ map test (each row from count)
-  items_tests test = rows_numbered (λ k. test) ∙ sym (map_numbered test 0 (each row from count))
 
   module _ (words : List ℕ) (m kind : ℕ) (begins : from ≡ begin_of words m kind) (counts : count ≡ count_of words m kind) where
     pub numbered_tests : (test : ℕ → A → Bool) → each (λ k. test k (row (from + k))) 0 count ≡ map_from test 0 (rows_of row words m kind)

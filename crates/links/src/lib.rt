@@ -159,7 +159,7 @@ fn node_expressions_below(words: &[u32], node: Expression, n: u32) -> bool
             && links_below(words, args, n),
         Expression::MemberAccess(object, _) => link_below(object, n),
         Expression::IndexAccess(array, index) => both_below(array, index, n),
-        Expression::StructLiteral(_, _, _) => true,
+        Expression::StructLiteral(_, _) => true,
         Expression::Tuple(elements) => links_below(words, elements, n),
         Expression::TupleIndex(tuple, _) => link_below(tuple, n),
         Expression::ArrayLiteral(elements) => links_below(words, elements, n),

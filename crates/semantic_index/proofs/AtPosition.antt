@@ -8,12 +8,13 @@ use Rattle.std.specs.Prelude.{Option, None, Some, MatchOption}
 use lib.Dec.{leb, ltb}
 use borrow.Author.Tests.{le-leb, lt-leb, lt-ltb, le-ltb, ltb-true, ltb-false}
 use Rattle.std.specs.Prelude.{if◌then◌else◌}
+use Rattle.model.specs.Common.{let_some}
 use Rattle.model.specs.Records.{ExpressionInfo}
 use Rattle.model.specs.Lookups.{covers, span, expression_at_position}
 use Rattle.model.specs.AtPosition.{Best, better, turn, best_number}
 use Rattle.model.proofs.AtPosition.{Kept, kept_start, kept_turn, kept_chosen, chosen_found}
 use Rattle.records.specs.Layout.{each, begin_of, count_of, expression_rows, expression_row, rows_of, module_row}
-use Rattle.records.proofs.Lists.{each_length, each_snoc}
+use Rattle.records.proofs.Lists.{each_length, each_snoc, some_and}
 use Rattle.semantic_index.specs.Meaning.{best_of}
 use Rattle.semantic_index.specs.declared.Best.{Best as Found}
 
@@ -21,14 +22,13 @@ use Rattle.semantic_index.specs.declared.Best.{Best as Found}
 
 -- whether there is a best so far that is shorter
 abbrev pub kept : ℕ → Option Best → Bool
-kept length None = false
-kept length (Some best) = ltb best.length length
+kept length best = let_some best false (λ best. ltb best.length length)
 
 -- what `is_some_and` says of the best so far, whose closure compares the lengths
 pub kept_by : (length : ℕ) (P : Found → Type 0) (best : Option Found) (b : Bool) → MatchOption best (b ≡ false) P
     → ((x : Found) → P x → b ≡ ltb x.length length) → kept length (best_of best) ≡ b
-kept_by length P None b answer tests = sym answer
-kept_by length P (Some x) b answer tests = sym (tests x answer)
+kept_by length P best b answer tests =
+    sym (some_and (λ best. record { number = best.number; length = best.length }) (λ best. ltb best.length length) P best b answer tests)
 
 -- an expression whose start and end were read
 module _ (position number start end : ℕ) (x : ExpressionInfo) (is_start : start ≡ x.start) (is_end : end ≡ x.end) where

@@ -43,9 +43,9 @@ use Rattle.records.specs.Layout.{
   module_row,
   index_of,
 }
-use Rattle.records.proofs.Lists.{each_length}
+use Rattle.records.proofs.Lists.{each_length, some_and}
 use Rattle.records.proofs.Searches.{each_from}
-use Rattle.records.specs.Meaning.{definition_link_of, expression_link_of, found_expression_of}
+use Rattle.records.specs.Meaning.{definition_link_of, expression_link_of, info_of, found_expression_of}
 use Rattle.records.specs.declared.ExpressionId.{ExpressionId}
 use Rattle.records.specs.declared.ExpressionInfo.{ExpressionInfo as Info}
 use Rattle.semantic_index.proofs.Searches.{first_from, first_begin}
@@ -80,14 +80,10 @@ module _ (file words : List ℕ) (r : Option Info) (o : Option ExpressionInfo) (
 
   -- what `is_some_and` says of the record, whose closure compares the spans
   pub covered_by : (start end : ℕ) (P : Info → Type 0) (b : Bool) → MatchOption r (b ≡ false) P
-      → ((x : Info) → P x → b ≡ (leb x.start start && leb end x.end)) → b ≡ covered o start end
+      → ((x : Info) → P x → b ≡ (leb x.span.start start && leb end x.span.end)) → b ≡ covered o start end
   unfolding covered
-  covered_by start end P b answer tests = by r start end P b answer tests ∙ ap (λ o. covered o start end) is
-    where
-      by : (r : Option Info) (start end : ℕ) (P : Info → Type 0) (b : Bool) → MatchOption r (b ≡ false) P
-          → ((x : Info) → P x → b ≡ (leb x.start start && leb end x.end)) → b ≡ covered (found_expression_of file words r) start end
-      by None start end P b answer tests = answer
-      by (Some x) start end P b answer tests = tests x answer
+  covered_by start end P b answer tests =
+      some_and (info_of file words) (λ init. leb init.start start && leb end init.end) P r b answer tests ∙ ap (λ o. covered o start end) is
 
 module _ (the_module : Module) (definition : Definition) (start end : ℕ) (l : Option ExpressionId) (is : expression_link_of l ≡ let_value definition.kind) where
   abbrev value_covers : Option ℕ → Bool
@@ -96,12 +92,8 @@ module _ (the_module : Module) (definition : Definition) (start end : ℕ) (l : 
   pub initializer_by : (P : ExpressionId → Type 0) (b : Bool) → MatchOption l (b ≡ false) P
       → ((x : ExpressionId) → P x → b ≡ covered (expression_at the_module x.0) start end) → b ≡ in_let_initializer the_module definition start end
   unfolding in_let_initializer
-  initializer_by P b answer tests = by l P b answer tests ∙ ap value_covers is
-    where
-      by : (l : Option ExpressionId) (P : ExpressionId → Type 0) (b : Bool) → MatchOption l (b ≡ false) P
-          → ((x : ExpressionId) → P x → b ≡ covered (expression_at the_module x.0) start end) → b ≡ value_covers (expression_link_of l)
-      by None P b answer tests = answer
-      by (Some x) P b answer tests = tests x answer
+  initializer_by P b answer tests =
+      some_and (λ e. e.0) (λ e. covered (expression_at the_module e) start end) P l b answer tests ∙ ap value_covers is
 
 module _ (definition : Definition) (start : ℕ) (b : Bool) (is : b ≡ is_top_level_allowed definition.kind) where
   pub allowed : b ≡ true → b ≡ in_order definition start

@@ -20,6 +20,7 @@ ghost use Rattle.semantic_index.specs.Meaning.{best_of, FirstInChain};
 
 use records::{
     Definition, DefinitionIndex, DefinitionKind, ExpressionId, FileScopeId, Index, Name, RowKind,
+    Span,
 };
 
 // ------------------------------------------------------------------ scopes
@@ -158,37 +159,37 @@ fn let_value(kind: DefinitionKind) -> Option<ExpressionId>
     }
 }
 
-// Whether the span from `start` to `end` lies within the expression's.
-fn covers(words: &[u32], m: u32, e: ExpressionId, start: u32, end: u32) -> bool
+// Whether the span lies within the expression's.
+fn covers(words: &[u32], m: u32, e: ExpressionId, span: Span) -> bool
     ensures { (file : List ℕ) → result
-        ≡ covered (expression_at (module_row file words.now m) e.0) start end }
+        ≡ covered (expression_at (module_row file words.now m) e.0) span.start span.end }
 {
-    records::expression_at(words, m, e).is_some_and(|init| init.start <= start && end <= init.end)
+    records::expression_at(words, m, e).is_some_and(|init| init.span.contains(span))
 }
 
 // Whether the span lies within the initializer of this let.
-fn in_let_initializer(words: &[u32], m: u32, definition: Definition, start: u32, end: u32) -> bool
+fn in_let_initializer(words: &[u32], m: u32, definition: Definition, span: Span) -> bool
     ensures { (file : List ℕ) → result
         ≡ in_let_initializer (module_row file words.now m)
-        (definition_of file words.now definition) start end }
+        (definition_of file words.now definition) span.start span.end }
 {
-    let_value(definition.kind).is_some_and(|e| covers(words, m, e, start, end))
+    let_value(definition.kind).is_some_and(|e| covers(words, m, e, span))
 }
 
 // Whether the definition may stand behind its use, or stands before it.
 fn in_order(definition: Definition, start: u32) -> bool
     ensures { (file words : List ℕ) → result ≡ in_order (definition_of file words definition) start }
 {
-    is_top_level_allowed(definition.kind) || definition.full_start <= start
+    is_top_level_allowed(definition.kind) || definition.full_span.start <= start
 }
 
 // Whether the definition may be meant by its name at the span.
-fn visible_at(words: &[u32], m: u32, definition: Definition, start: u32, end: u32) -> bool
+fn visible_at(words: &[u32], m: u32, definition: Definition, span: Span) -> bool
     ensures { (file : List ℕ) → result
         ≡ visible_at (module_row file words.now m)
-        (definition_of file words.now definition) start end }
+        (definition_of file words.now definition) span.start span.end }
 {
-    in_order(definition, start) && !in_let_initializer(words, m, definition, start, end)
+    in_order(definition, span.start) && !in_let_initializer(words, m, definition, span)
 }
 
 // Whether a definition of the module is one of the name in the scope, and visible at the span.
@@ -199,12 +200,11 @@ fn is_named_and_visible(
     d: u32,
     s: FileScopeId,
     name: Name,
-    start: u32,
-    end: u32,
+    span: Span,
 ) -> bool
     ensures { result
         ≡ named_and_visible (module_row index.now.file.now index.now.words.now m) s.0
-        (name_of index.now.file.now name) start end
+        (name_of index.now.file.now name) span.start span.end
         (definition_row index.now.file.now index.now.words.now (first + d)) }
 {
     is_named(index, first, d, s, name)
@@ -212,8 +212,7 @@ fn is_named_and_visible(
             index.words,
             m,
             records::definition_row(index.words, first, d),
-            start,
-            end,
+            span,
         )
 }
 
@@ -224,16 +223,15 @@ fn latest_visible_by_name(
     m: u32,
     s: FileScopeId,
     name: Name,
-    start: u32,
-    end: u32,
+    span: Span,
 ) -> Option<DefinitionIndex>
     ensures { definition_link_of result
         ≡ latest_visible_by_name (module_row index.now.file.now index.now.words.now m) s.0
-        (name_of index.now.file.now name) start end }
+        (name_of index.now.file.now name) span.start span.end }
 {
     let rows = records::rows_of(index.words, m, RowKind::Definition);
     let d = (0..rows.count).rev().find(|d| {
-        is_named_and_visible(index, m, rows.first, *d, s, name, start, end)
+        is_named_and_visible(index, m, rows.first, *d, s, name, span)
     })?;
     Some(DefinitionIndex(d))
 }
@@ -244,18 +242,17 @@ pub fn resolve_name_at_position(
     m: u32,
     name: Name,
     s: FileScopeId,
-    start: u32,
-    end: u32,
+    span: Span,
 ) -> Option<DefinitionIndex>
     ensures { definition_link_of result
         ≡ resolve_name_at_position (module_row index.now.file.now index.now.words.now m)
-        (name_of index.now.file.now name) s.0 start end }
+        (name_of index.now.file.now name) s.0 span.start span.end }
 {
     first_in_chain(
         index.words,
         m,
         s,
-        |scope| latest_visible_by_name(index, m, scope, name, start, end),
+        |scope| latest_visible_by_name(index, m, scope, name, span),
     )
 }
 

@@ -14,10 +14,10 @@ returns-in_err-d c =
     ap definition_link_of c.from_residual.ensures
     ∙ sym c.in_err-d.was
     ∙ visible_found _ _ _ _ _ c.rows_of-rows.ensures.begins c.rows_of-rows.ensures.counts _ _ _ _ _
-    (found_last (named_and_visible (module_row c.args.index.now.file.now c.args.index.now.words.now c.args.m) c.args.s.0 (name_of c.args.index.now.file.now c.args.name) c.args.start c.args.end) (λ d. definition_row c.args.index.now.file.now c.args.index.now.words.now (c.rows_of-rows.result.first + d)) _ _ _ _ c.find.ensures.ran c.rev.ensures.source (λ x b q k. search rules))
+    (found_last (named_and_visible (module_row c.args.index.now.file.now c.args.index.now.words.now c.args.m) c.args.s.0 (name_of c.args.index.now.file.now c.args.name) c.args.span.start c.args.span.end) (λ d. definition_row c.args.index.now.file.now c.args.index.now.words.now (c.rows_of-rows.result.first + d)) _ _ _ _ c.find.ensures.ran c.rev.ensures.source (λ x b q k. search rules))
 
 pub returns : goal.returns
 returns c =
     sym c.in_ok-d.was
     ∙ visible_found _ _ _ _ _ c.rows_of-rows.ensures.begins c.rows_of-rows.ensures.counts _ _ _ _ _
-    (found_last (named_and_visible (module_row c.args.index.now.file.now c.args.index.now.words.now c.args.m) c.args.s.0 (name_of c.args.index.now.file.now c.args.name) c.args.start c.args.end) (λ d. definition_row c.args.index.now.file.now c.args.index.now.words.now (c.rows_of-rows.result.first + d)) _ _ _ _ c.find.ensures.ran c.rev.ensures.source (λ x b q k. search rules))
+    (found_last (named_and_visible (module_row c.args.index.now.file.now c.args.index.now.words.now c.args.m) c.args.s.0 (name_of c.args.index.now.file.now c.args.name) c.args.span.start c.args.span.end) (λ d. definition_row c.args.index.now.file.now c.args.index.now.words.now (c.rows_of-rows.result.first + d)) _ _ _ _ c.find.ensures.ran c.rev.ensures.source (λ x b q k. search rules))
