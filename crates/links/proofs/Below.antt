@@ -1,21 +1,21 @@
 -- Laws of `all_below` and of tests one after the other. Assumes nothing.
 use mathlib.Core.Path.{◌≡◌, refl, sym, ap, ◌∙◌}
-use mathlib.Core.Bool.{Bool, true, false, not, ◌&&◌}
+use mathlib.Core.Bool.{Bool, true, false, ◌&&◌}
 use Prim.Native.Nat.{ℕ, zero, suc, ◌+◌}
-use mathlib.Core.List.{List, [], ◌∷◌, ◌++◌, map}
-use Rattle.std.specs.Prelude.{Option, None, Some, is_some, if◌then◌else◌}
+use mathlib.Core.List.{List, [], ◌∷◌, ◌++◌}
+use Rattle.std.specs.Prelude.{Option, None, Some, IsTrue, MatchOption, option_map}
 use lib.Dec.{ltb}
-use Rattle.model.specs.Common.{every, first, next}
+use Rattle.model.specs.Common.{every}
 use Rattle.model.specs.Links.{link, links, field_types}
 use Rattle.format.specs.LinkCheck.{all_below}
 use Rattle.records.specs.Layout.{each, item_value, numbers_at, links_at, names_with_types_at, link_by}
-use Rattle.links.proofs.Lines.{items_tests}
+use Rattle.records.proofs.Searches.{each_from}
 
 -- ------------------------------------------------------------------ two tests, the second made where the first passes
 
 module _ (b x y : Bool) (is : b ≡ x) where
-  pub and_stop : b ≡ false → false ≡ (x && y)
-  and_stop h = ap (λ x. x && y) (sym h ∙ is)
+  pub and_stop : b ≡ false → b ≡ (x && y)
+  and_stop h = h ∙ ap (λ x. x && y) (sym h ∙ is)
 
   pub and_go : (c : Bool) → b ≡ true → c ≡ y → c ≡ (x && y)
   and_go c h e = e ∙ ap (λ x. x && y) (sym h ∙ is)
@@ -40,6 +40,13 @@ module _ (n : ℕ) where
       by true = refl
       by false = refl
 
+  -- a link that is absent, or whose number passes
+  pub link_passes : {R : Type 0} (number : R → ℕ) (P : R → Type 0) (to : Option R) (b : Bool) → MatchOption to (IsTrue b) P
+      → ((k : R) → P k → b ≡ ltb (number k) n) → b ≡ all_below n (link (option_map number to))
+  unfolding all_below
+  link_passes number P None b is tests = is
+  link_passes number P (Some k) b is tests = tests k is ∙ below_one (number k)
+
   -- a link that equals the one that was tested
   pub link_same : (b : Bool) (p o : Option ℕ) → b ≡ all_below n (link p) → p ≡ o → b ≡ all_below n (link o)
   link_same b p o is e = is ∙ ap (λ o. all_below n (link o)) e
@@ -56,7 +63,7 @@ module _ (n : ℕ) where
 
   -- one part after the other
   module _ (ks js : List ℕ) (b : Bool) (is : b ≡ all_below n ks) where
-    pub parts_stop : b ≡ false → false ≡ all_below n (ks ++ js)
+    pub parts_stop : b ≡ false → b ≡ all_below n (ks ++ js)
     parts_stop h = and_stop b (all_below n ks) (all_below n js) is h ∙ below_append ks js
 
     pub parts_go : (c : Bool) → b ≡ true → c ≡ all_below n js → c ≡ all_below n (ks ++ js)
@@ -65,32 +72,6 @@ module _ (n : ℕ) where
 -- a bound that equals the one that was tested
 pub bound_same : (ks : List ℕ) (n k : ℕ) → n ≡ k → all_below n ks ≡ all_below k ks
 bound_same ks n k e = ap (λ n. all_below n ks) e
-
--- ------------------------------------------------------------------ every element of a list
-
--- every element passes where none is the first that fails
-none_fails : {A : Type 0} (test : A → Bool) (xs : List A) → not (is_some (first not (map test xs))) ≡ every test xs
-unfolding first
-none_fails test [] = refl
-none_fails test (x ∷ xs) = by (test x) (first not (map test xs)) (none_fails test xs)
-  where
-    by : (b : Bool) (o : Option ℕ) → not (is_some o) ≡ every test xs → not (is_some (if not b then Some zero else next o)) ≡ (b && every test xs)
-    by true None e = e
-    by true (Some k) e = e
-    by false o e = refl
-
--- the code's first fault is `r`, and whether it is none is `b`
-module _ {A : Type 0} (test : A → Bool) (row : ℕ → A) (from count : ℕ) where
-  all_pass : (r : Option ℕ) (b : Bool) → r ≡ first not (each (λ k. test (row (from + k))) 0 count) → is_some r ≡ not b
-      → b ≡ every test (each row from count)
-  all_pass r b is e =
-      by b _ e
-      ∙ ap (λ r. not (is_some r)) (is ∙ ap (first not) (items_tests row from count test))
-      ∙ none_fails test (each row from count)
-    where
-      by : (b x : Bool) → x ≡ not b → b ≡ not x
-      by true x h = ap not (sym h)
-      by false x h = ap not (sym h)
 
 -- ------------------------------------------------------------------ the lists of a row
 
@@ -105,19 +86,21 @@ module _ (n : ℕ) where
   links_every [] = refl
   links_every (o ∷ os) = sym (below_append n (link o) (links os)) ∙ ap (λ r. all_below n (link o) && r) (links_every os)
 
-  module _ (words : List ℕ) (from count : ℕ) (r : Option ℕ) (b : Bool) where
-    pub numbers_pass : r ≡ first not (each (λ i. ltb (item_value words (from + i)) n) 0 count) → is_some r ≡ not b
-        → b ≡ all_below n (numbers_at words from count)
+  -- the code's answer is whether each item of the list passes
+  module _ (words : List ℕ) (from count : ℕ) (b : Bool) where
+    pub numbers_pass : b ≡ every (λ k. ltb k n) (each (λ i. item_value words (from + i)) 0 count) → b ≡ all_below n (numbers_at words from count)
     unfolding numbers_at
-    numbers_pass is e =
-        all_pass (λ k. ltb k n) (item_value words) from count r b is e
+    numbers_pass is =
+        is
+        ∙ ap (every (λ k. ltb k n)) (each_from (item_value words) from count)
         ∙ sym (numbers_every (each (item_value words) from count))
 
-    pub links_pass : r ≡ first not (each (λ i. all_below n (link (link_by (item_value words (from + i))))) 0 count) → is_some r ≡ not b
+    pub links_pass : b ≡ every (λ o. all_below n (link o)) (each (λ i. link_by (item_value words (from + i))) 0 count)
         → b ≡ all_below n (links (links_at words from count))
     unfolding links_at
-    links_pass is e =
-        all_pass (λ o. all_below n (link o)) (λ i. link_by (item_value words i)) from count r b is e
+    links_pass is =
+        is
+        ∙ ap (every (λ o. all_below n (link o))) (each_from (λ i. link_by (item_value words i)) from count)
         ∙ sym (links_every (each (λ i. link_by (item_value words i)) from count))
 
 -- the T of names with types are the values of the same items

@@ -1,55 +1,32 @@
 -- The first test of a list that fails: row after row, and part after part. Assumes nothing.
 use mathlib.Core.Path.{◌≡◌, refl, sym, ap, ap₂, ◌∙◌}
 use mathlib.Core.Bool.{Bool, true, false, not}
-use Prim.Native.Nat.{ℕ, zero, suc, ◌+◌, ◌-◌, ◌≤◌, ◌<◌}
-use native.Mathlib.Nat.{add-zero, zero-add, sub-zero}
-use native.Mathlib.Numerals.{add-one}
+use Prim.Native.Nat.{ℕ, zero, suc, ◌+◌, ◌<◌}
+use native.Mathlib.Nat.{add-zero}
 use native.Mathlib.Omega.{arith}
 use mathlib.Core.List.{List, [], ◌∷◌, ◌++◌, map}
 use Rattle.std.specs.Prelude.{Option, None, Some}
 use Rattle.std.specs.Prelude.{slice_get}
 use lib.ListN.{length}
-use borrow.Author.Tests.{not-true, not-false}
 use Rattle.std.specs.Prelude.{if◌then◌else◌}
 use Rattle.model.specs.Common.{next, first}
 use Rattle.model.proofs.Places.{getElem_below}
 use Rattle.model.proofs.Search.{passes_some, first_passes}
 use Rattle.format.specs.LinkCheck.{map_from}
 use Rattle.records.specs.Layout.{each, begin_of, count_of, rows_of}
+use Rattle.records.proofs.Searches.{shifted, shifted_next, shifted_0}
 
 -- ------------------------------------------------------------------ tests from a place on
-
--- a place among the tests from n on, as a place among all
-unfoldable pub shifted : ℕ → Option ℕ → Option ℕ
-shifted n None = None
-shifted n (Some k) = Some (n + k)
 
 -- the place of the first test that fails, where the list's own place is n
 unfoldable pub fault_in : ℕ → List Bool → Option ℕ
 fault_in n bs = shifted n (first not bs)
-
-shifted_next : (n : ℕ) (o : Option ℕ) → shifted n (next o) ≡ shifted (n + 1) o
-unfolding shifted
-shifted_next n None = refl
-shifted_next n (Some k) = ap Some (over n k)
-  where
-    over : (n k : ℕ) → n + suc k ≡ n + 1 + k
-    over n k = omega arith
-
-shifted_0 : (o : Option ℕ) → o ≡ shifted 0 o
-unfolding shifted
-shifted_0 None = refl
-shifted_0 (Some k) = ap Some (sym (zero-add k))
 
 pub fault_begin : (bs : List Bool) → first not bs ≡ fault_in 0 bs
 unfolding fault_in
 fault_begin bs = shifted_0 (first not bs)
 
 module _ (n : ℕ) where
-  pub fault_none : fault_in n [] ≡ None
-  unfolding fault_in shifted first
-  fault_none = refl
-
   module _ (b : Bool) (bs : List Bool) where
     pub fault_here : b ≡ false → fault_in n (b ∷ bs) ≡ Some n
     unfolding fault_in shifted first
@@ -129,40 +106,6 @@ unfolding map_from
 map_from_length test n [] = refl
 map_from_length test n (x ∷ xs) = ap suc (map_from_length test (suc n) xs)
 
--- the first number from i on that fails its test
-unfoldable pub fault_from : (ℕ → Bool) → ℕ → ℕ → Option ℕ
-fault_from test count i = fault_in i (each test i (count - i))
-
-module _ (test : ℕ → Bool) (count : ℕ) where
-  pub from_begin : first not (each test 0 count) ≡ fault_from test count 0
-  unfolding fault_from
-  from_begin = fault_begin (each test 0 count) ∙ ap (λ n. fault_in 0 (each test 0 n)) (sym (sub-zero count))
-
-  from_turn : (i : ℕ) → i < count → fault_from test count i ≡ fault_in i (test i ∷ each test (i + 1) (count - (i + 1)))
-  unfolding fault_from each
-  from_turn i h =
-      ap (λ n. fault_in i (each test i n)) (one_less count i h)
-      ∙ ap (λ k. fault_in i (test i ∷ each test k (count - (i + 1)))) (sym (add-one i))
-    where
-      one_less : (n i : ℕ) → i < n → n - i ≡ suc (n - (i + 1))
-      one_less n i h = omega arith
-
-  -- the code's test of the number is `b`
-  module _ (i : ℕ) (b : Bool) (below : i < count) (is : b ≡ test i) where
-    pub from_hit : not b ≡ true → fault_from test count i ≡ Some i
-    from_hit e = from_turn i below ∙ fault_here i _ _ (sym is ∙ not-true b e)
-
-    pub from_miss : not b ≡ false → fault_from test count i ≡ fault_from test count (i + 1)
-    unfolding fault_from
-    from_miss e = from_turn i below ∙ fault_later i _ _ (sym is ∙ not-false b e)
-
-  pub from_end : (i : ℕ) → count ≤ i → fault_from test count i ≡ None
-  unfolding fault_from each
-  from_end i h = ap (λ n. fault_in i (each test i n)) (ended count i h) ∙ fault_none i
-    where
-      ended : (n i : ℕ) → n ≤ i → n - i ≡ 0
-      ended n i h = omega arith
-
 -- ------------------------------------------------------------------ the tests of rows by their numbers
 
 -- what a test of each row gives, with the rows' numbers
@@ -177,13 +120,10 @@ each_numbered test row from n (suc count) =
     over : (a b : ℕ) → a + suc b ≡ suc (a + b)
     over a b = omega arith
 
--- over a list that begins at row `from`, and over a module's rows of a kind, with the rows' numbers or without
+-- over rows that begin at `from`, and over a module's rows of a kind, with the rows' numbers or without
 module _ {A : Type 0} (row : ℕ → A) (from count : ℕ) where
   rows_numbered : (test : ℕ → A → Bool) → each (λ k. test k (row (from + k))) 0 count ≡ map_from test 0 (each row from count)
   rows_numbered test = each_numbered test row from 0 count ∙ ap (λ a. map_from test 0 (each row a count)) (add-zero from)
-
-  pub items_tests : (test : A → Bool) → each (λ k. test (row (from + k))) 0 count ≡ map test (each row from count)
-  items_tests test = rows_numbered (λ k. test) ∙ sym (map_numbered test 0 (each row from count))
 
   module _ (words : List ℕ) (m kind : ℕ) (begins : from ≡ begin_of words m kind) (counts : count ≡ count_of words m kind) where
     pub numbered_tests : (test : ℕ → A → Bool) → each (λ k. test k (row (from + k))) 0 count ≡ map_from test 0 (rows_of row words m kind)

@@ -62,10 +62,10 @@ module _ (file words : List ℕ) (m : ℕ) (b : Bool) (is : module_at (index_of 
     unfolding question_linked
     type_no_module h = without (type_test t s) h
 
-    pub type_past : (n : ℕ) → b ≡ true → n ≡ length the_module.types → n ≤ t → false ≡ question_linked index (Question.type m t s)
+    pub type_past : (n : ℕ) → b ≡ true → n ≡ length the_module.types → n ≤ t → ltb t n ≡ question_linked index (Question.type m t s)
     unfolding question_linked
     type_past n h are past =
-        within (type_test t s) false h
+        within (type_test t s) (ltb t n) h
         (and_stop (ltb t n) (ltb t (length the_module.types)) (ltb s (length the_module.scopes)) (ap (ltb t) are) (le-ltb t n past))
 
     pub type_there : (n k : ℕ) → b ≡ true → n ≡ length the_module.types → t < n → k ≡ length the_module.scopes

@@ -1,5 +1,5 @@
 -- The links of a definition and of an expression, in the order in which they are tested. Assumes nothing.
-use mathlib.Core.Path.{◌≡◌, ap, ◌∙◌}
+use mathlib.Core.Path.{◌≡◌, refl, ap, ◌∙◌}
 use mathlib.Core.Bool.{Bool, true, false, ◌&&◌}
 use Prim.Native.Nat.{ℕ, ◌≤◌, ◌<◌}
 use lib.ListN.{length}
@@ -10,89 +10,77 @@ use Rattle.model.specs.Links.{definition_types, definition_expressions, expressi
 use Rattle.format.specs.LinkCheck.{all_below, definition_linked, expression_linked}
 use Rattle.links.proofs.Below.{and_stop, and_go, bound_same}
 
--- a scope that is tested against the number of scopes, before other tests
-module _ (s n k : ℕ) (is : n ≡ k) (rest : Bool) where
-  scope_past : n ≤ s → false ≡ (ltb s k && rest)
-  scope_past h = and_stop (ltb s n) (ltb s k) rest (ap (ltb s) is) (le-ltb s n h)
+and_right : (x y z : Bool) → (x && y && z) ≡ (x && (y && z))
+and_right true y z = refl
+and_right false y z = refl
 
-  scope_there : (c : Bool) → s < n → c ≡ rest → c ≡ (ltb s k && rest)
-  scope_there c h e = and_go (ltb s n) (ltb s k) rest (ap (ltb s) is) c (lt-ltb s n h) e
+and_right_2 : (x y z w : Bool) → (x && y && z && w) ≡ (x && (y && (z && w)))
+and_right_2 true y z w = and_right y z w
+and_right_2 false y z w = refl
 
--- ------------------------------------------------------------------ a definition
+-- the row that the code read, and what its tests but the last give
+module _ (the_module : Module) (definition row : Definition) (same : definition ≡ row) (v : Bool)
+    (is : v ≡ (ltb definition.scope (length the_module.scopes) && all_below (length the_module.types) (definition_types definition.kind))) where
+  abbrev last_test : Bool
+  last_test = all_below (length the_module.expressions) (definition_expressions definition.kind)
 
-module _ (the_module : Module) (definition row : Definition) (same : definition ≡ row) (scopes : ℕ) (are : scopes ≡ length the_module.scopes) where
-  abbrev types_lead : Bool
-  types_lead = all_below (length the_module.types) (definition_types definition.kind)
-
-  abbrev expressions_lead : Bool
-  expressions_lead = all_below (length the_module.expressions) (definition_expressions definition.kind)
-
-  pub definition_scope_past : scopes ≤ definition.scope → false ≡ definition_linked the_module row
+  whole : (b : Bool) → b ≡ (ltb definition.scope (length the_module.scopes) && all_below (length the_module.types) (definition_types definition.kind) && last_test)
+      → b ≡ definition_linked the_module row
   unfolding definition_linked
-  definition_scope_past h =
-      scope_past definition.scope scopes (length the_module.scopes) are (types_lead && expressions_lead) h ∙ ap (definition_linked the_module) same
+  whole b e =
+      e
+      ∙ and_right (ltb definition.scope (length the_module.scopes)) (all_below (length the_module.types) (definition_types definition.kind)) last_test
+      ∙ ap (definition_linked the_module) same
 
-  module _ (there : definition.scope < scopes) (types : ℕ) (are_types : types ≡ length the_module.types) (b : Bool) (is : b ≡ all_below types (definition_types definition.kind)) where
-    definition_rest : (c : Bool) → c ≡ (types_lead && expressions_lead) → c ≡ definition_linked the_module row
-    unfolding definition_linked
-    definition_rest c e =
-        scope_there definition.scope scopes (length the_module.scopes) are (types_lead && expressions_lead) c there e ∙ ap (definition_linked the_module) same
+  pub definition_stops : v ≡ false → v ≡ definition_linked the_module row
+  definition_stops h = whole v (and_stop v _ last_test is h)
 
-    types_tested : b ≡ types_lead
-    types_tested = is ∙ bound_same (definition_types definition.kind) types (length the_module.types) are_types
+  pub definition_goes : v ≡ true → (b : Bool) → b ≡ last_test → b ≡ definition_linked the_module row
+  definition_goes h b e = whole b (and_go v _ last_test is b h e)
 
-    pub definition_types_past : b ≡ false → false ≡ definition_linked the_module row
-    definition_types_past h = definition_rest false (and_stop b types_lead expressions_lead types_tested h)
+-- the first two tests of an expression, and the first three
+unfoldable pub two_lead : Module → ExpressionInfo → Bool
+two_lead the_module expression = ltb expression.scope (length the_module.scopes) && all_below (length the_module.types) (expression_types expression)
 
-    pub definition_types_there : (expressions : ℕ) (c : Bool) → b ≡ true → expressions ≡ length the_module.expressions
-        → c ≡ all_below expressions (definition_expressions definition.kind) → c ≡ definition_linked the_module row
-    definition_types_there expressions c h are_expressions e =
-        definition_rest c
-        (and_go b types_lead expressions_lead types_tested c h
-        (e ∙ bound_same (definition_expressions definition.kind) expressions (length the_module.expressions) are_expressions))
+unfoldable pub three_lead : Module → ExpressionInfo → Bool
+three_lead the_module expression = two_lead the_module expression && all_below (length the_module.definitions) (expression_definitions expression)
 
--- ------------------------------------------------------------------ an expression
+module _ (the_module : Module) (expression : ExpressionInfo) where
+  module _ (n : ℕ) (are : n ≡ length the_module.scopes) where
+    pub scope_past : n ≤ expression.scope → ltb expression.scope n ≡ two_lead the_module expression
+    unfolding two_lead
+    scope_past h = and_stop _ _ _ (ap (ltb expression.scope) are) (le-ltb expression.scope n h)
 
-module _ (the_module : Module) (expression row : ExpressionInfo) (same : expression ≡ row) (scopes : ℕ) (are : scopes ≡ length the_module.scopes) where
-  abbrev t_lead : Bool
-  t_lead = all_below (length the_module.types) (expression_types expression)
+    pub scope_there : expression.scope < n → (k : ℕ) (b : Bool) → k ≡ length the_module.types → b ≡ all_below k (expression_types expression)
+        → b ≡ two_lead the_module expression
+    unfolding two_lead
+    scope_there h k b are_types e =
+        and_go _ _ _ (ap (ltb expression.scope) are) b (lt-ltb expression.scope n h) (e ∙ bound_same (expression_types expression) k (length the_module.types) are_types)
 
-  abbrev d_lead : Bool
-  d_lead = all_below (length the_module.definitions) (expression_definitions expression)
+  module _ (v : Bool) (is : v ≡ two_lead the_module expression) where
+    pub types_past : v ≡ false → v ≡ three_lead the_module expression
+    unfolding three_lead
+    types_past h = and_stop _ _ _ is h
 
-  abbrev e_lead : Bool
-  e_lead = all_below (length the_module.expressions) (expression_expressions expression)
+    pub types_there : v ≡ true → (k : ℕ) (b : Bool) → k ≡ length the_module.definitions → b ≡ all_below k (expression_definitions expression)
+        → b ≡ three_lead the_module expression
+    unfolding three_lead
+    types_there h k b are e = and_go _ _ _ is b h (e ∙ bound_same (expression_definitions expression) k (length the_module.definitions) are)
 
-  pub expression_scope_past : scopes ≤ expression.scope → false ≡ expression_linked the_module row
-  unfolding expression_linked
-  expression_scope_past h =
-      scope_past expression.scope scopes (length the_module.scopes) are (t_lead && (d_lead && e_lead)) h ∙ ap (expression_linked the_module) same
+  module _ (row : ExpressionInfo) (same : expression ≡ row) (v : Bool) (is : v ≡ three_lead the_module expression) where
+    the_whole : (b : Bool) → b ≡ (three_lead the_module expression && all_below (length the_module.expressions) (expression_expressions expression))
+        → b ≡ expression_linked the_module row
+    unfolding expression_linked three_lead two_lead
+    the_whole b e =
+        e
+        ∙ and_right_2 (ltb expression.scope (length the_module.scopes)) (all_below (length the_module.types) (expression_types expression))
+        (all_below (length the_module.definitions) (expression_definitions expression))
+        (all_below (length the_module.expressions) (expression_expressions expression))
+        ∙ ap (expression_linked the_module) same
 
-  module _ (there : expression.scope < scopes) (types : ℕ) (are_types : types ≡ length the_module.types) (b : Bool) (is : b ≡ all_below types (expression_types expression)) where
-    behind_scope : (c : Bool) → c ≡ (t_lead && (d_lead && e_lead)) → c ≡ expression_linked the_module row
-    unfolding expression_linked
-    behind_scope c e =
-        scope_there expression.scope scopes (length the_module.scopes) are (t_lead && (d_lead && e_lead)) c there e ∙ ap (expression_linked the_module) same
+    pub expression_past : v ≡ false → v ≡ expression_linked the_module row
+    expression_past h = the_whole v (and_stop _ _ _ is h)
 
-    t_tested : b ≡ t_lead
-    t_tested = is ∙ bound_same (expression_types expression) types (length the_module.types) are_types
-
-    pub expression_types_past : b ≡ false → false ≡ expression_linked the_module row
-    expression_types_past h = behind_scope false (and_stop b t_lead (d_lead && e_lead) t_tested h)
-
-    module _ (types_there : b ≡ true) (definitions : ℕ) (are_definitions : definitions ≡ length the_module.definitions) (d : Bool) (d_is : d ≡ all_below definitions (expression_definitions expression)) where
-      behind_types : (c : Bool) → c ≡ (d_lead && e_lead) → c ≡ expression_linked the_module row
-      behind_types c e = behind_scope c (and_go b t_lead (d_lead && e_lead) t_tested c types_there e)
-
-      d_tested : d ≡ d_lead
-      d_tested = d_is ∙ bound_same (expression_definitions expression) definitions (length the_module.definitions) are_definitions
-
-      pub expression_definition_past : d ≡ false → false ≡ expression_linked the_module row
-      expression_definition_past h = behind_types false (and_stop d d_lead e_lead d_tested h)
-
-      pub expression_definition_there : (expressions : ℕ) (c : Bool) → d ≡ true → expressions ≡ length the_module.expressions
-          → c ≡ all_below expressions (expression_expressions expression) → c ≡ expression_linked the_module row
-      expression_definition_there expressions c h are_expressions e =
-          behind_types c
-          (and_go d d_lead e_lead d_tested c h
-          (e ∙ bound_same (expression_expressions expression) expressions (length the_module.expressions) are_expressions))
+    pub expression_tested : v ≡ true → (k : ℕ) (b : Bool) → k ≡ length the_module.expressions → b ≡ all_below k (expression_expressions expression)
+        → b ≡ expression_linked the_module row
+    expression_tested h k b are e = the_whole b (and_go _ _ _ is b h (e ∙ bound_same (expression_expressions expression) k (length the_module.expressions) are))

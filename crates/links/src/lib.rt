@@ -12,27 +12,12 @@ ghost use Rattle.records.specs.Layout.{scope_row, type_expr_row, definition_row,
 ghost use Rattle.records.specs.Layout.{module_row, index_of};
 ghost use Rattle.records.specs.Meaning.{numbers_of, links_of, type_link_of, definition_link_of, expression_link_of};
 ghost use Rattle.records.specs.Meaning.{definition_kind_of, origin_of, expression_of};
-ghost use Rattle.links.specs.Promises.{FirstFault, LineCount};
+ghost use Rattle.links.specs.Promises.{LineCount};
 
 use records::{
     DefinitionKind, Expression, ExpressionId, FileScopeId, Items, Origin, Question, RecordNumber,
     RowKind, TypeExpr,
 };
-
-// ------------------------------------------------------------------ the first that fails a test
-
-// The first number below `count` that fails the test.
-fn first_fault<F: Fn(u32) -> bool>(count: u32, test: F) -> Option<u32>
-    requires { F.IsAlwaysCallable test }
-    ensures { FirstFault (F.post test) count result }
-{
-    for i in 0..count {
-        if !test(i) {
-            return Some(i);
-        }
-    }
-    None
-}
 
 // ------------------------------------------------------------------ links below a number of records
 
@@ -40,40 +25,28 @@ fn first_fault<F: Fn(u32) -> bool>(count: u32, test: F) -> Option<u32>
 fn numbers_below(words: &[u32], items: Items, n: u32) -> bool
     ensures { result ≡ all_below n (numbers_of words.now items) }
 {
-    let begin = items.first;
-    first_fault(items.count, |i| records::item_value(words, begin, i) < n).is_none()
+    (0..items.count).all(|i| records::item_value(words, items.first, i) < n)
 }
 
 // A link that is there is below `n`.
 fn link_below<R: RecordNumber>(to: Option<R>, n: u32) -> bool
     ensures { result ≡ all_below n (link (option_map R.number to)) }
 {
-    match to {
-        None => true,
-        Some(k) => k.get() < n,
-    }
+    to.is_none_or(|k| k.get() < n)
 }
 
 // Each of two links that is there is below `n`.
 fn both_below(a: Option<ExpressionId>, b: Option<ExpressionId>, n: u32) -> bool
     ensures { result ≡ all_below n (link (expression_link_of a) ++ link (expression_link_of b)) }
 {
-    if !link_below(a, n) {
-        return false;
-    }
-    link_below(b, n)
+    link_below(a, n) && link_below(b, n)
 }
 
 // Each link of the list that is there is below `n`.
 fn links_below(words: &[u32], items: Items, n: u32) -> bool
     ensures { result ≡ all_below n (links (links_of words.now items)) }
 {
-    let begin = items.first;
-    first_fault(
-        items.count,
-        |i| link_below(records::item_link(words, begin, i), n),
-    )
-    .is_none()
+    (0..items.count).all(|i| link_below(records::item_link(words, items.first, i), n))
 }
 
 // ------------------------------------------------------------------ scopes and type expressions
@@ -114,12 +87,7 @@ fn definition_types_below(words: &[u32], kind: DefinitionKind, n: u32) -> bool
         ≡ all_below n (definition_types (definition_kind_of file words.now kind)) }
 {
     match kind {
-        DefinitionKind::Function(t, params) => {
-            if n <= t {
-                return false;
-            }
-            numbers_below(words, params, n)
-        }
+        DefinitionKind::Function(t, params) => t < n && numbers_below(words, params, n),
         DefinitionKind::Struct(fields) => numbers_below(words, fields, n),
         DefinitionKind::Const(t, _) => link_below(t, n),
         DefinitionKind::Let(t, _, _, _) => link_below(t, n),
@@ -155,15 +123,9 @@ fn definition_linked(words: &[u32], m: u32, begin: u32, d: u32) -> bool
     let types = records::type_expr_count(words, m);
     let expressions = records::expression_count(words, m);
     let definition = records::definition_row(words, begin, d);
-    let scope = definition.scope;
-    if scopes <= scope.0 {
-        return false;
-    }
-    let kind = definition.kind;
-    if !definition_types_below(words, kind, types) {
-        return false;
-    }
-    definition_expressions_below(kind, expressions)
+    definition.scope.0 < scopes
+        && definition_types_below(words, definition.kind, types)
+        && definition_expressions_below(definition.kind, expressions)
 }
 
 // ------------------------------------------------------------------ expressions
@@ -193,15 +155,11 @@ fn node_expressions_below(words: &[u32], node: Expression, n: u32) -> bool
         Expression::Identifier(_) => true,
         Expression::Unary(_, e) => link_below(e, n),
         Expression::Binary(_, left, right) => both_below(left, right, n),
-        Expression::FunctionCall(callee, args) => {
-            if !link_below(callee, n) {
-                return false;
-            }
-            links_below(words, args, n)
-        }
+        Expression::FunctionCall(callee, args) => link_below(callee, n)
+            && links_below(words, args, n),
         Expression::MemberAccess(object, _) => link_below(object, n),
         Expression::IndexAccess(array, index) => both_below(array, index, n),
-        Expression::StructLiteral(_, _, _) => true,
+        Expression::StructLiteral(_, _) => true,
         Expression::Tuple(elements) => links_below(words, elements, n),
         Expression::TupleIndex(tuple, _) => link_below(tuple, n),
         Expression::ArrayLiteral(elements) => links_below(words, elements, n),
@@ -228,10 +186,7 @@ fn expression_types_below(expected: Option<u32>, node: Expression, n: u32) -> bo
     ensures { (file words : List ℕ) → result
         ≡ all_below n (link (type_link_of expected) ++ node_types (expression_of file words node)) }
 {
-    if !link_below(expected, n) {
-        return false;
-    }
-    node_types_below(node, n)
+    link_below(expected, n) && node_types_below(node, n)
 }
 
 // Each E that an expression names is below `n`: its origin's and its node's.
@@ -240,10 +195,7 @@ fn expression_expressions_below(words: &[u32], origin: Origin, node: Expression,
         ≡ all_below n (origin_expressions (origin_of file origin)
         ++ node_expressions (expression_of file words.now node)) }
 {
-    if !origin_below(origin, n) {
-        return false;
-    }
-    node_expressions_below(words, node, n)
+    origin_below(origin, n) && node_expressions_below(words, node, n)
 }
 
 // The links of expression `e` of a module, whose expressions begin at row `begin`, are below the module's counts.
@@ -257,21 +209,10 @@ fn expression_linked(words: &[u32], m: u32, begin: u32, e: u32) -> bool
     let definitions = records::definition_count(words, m);
     let expressions = records::expression_count(words, m);
     let expression = records::expression_row(words, begin, e);
-    let scope = expression.scope;
-    let expected = expression.expected;
-    let definition = expression.definition;
-    let origin = expression.origin;
-    let node = expression.node;
-    if scopes <= scope.0 {
-        return false;
-    }
-    if !expression_types_below(expected, node, types) {
-        return false;
-    }
-    if !link_below(definition, definitions) {
-        return false;
-    }
-    expression_expressions_below(words, origin, node, expressions)
+    expression.scope.0 < scopes
+        && expression_types_below(expression.expected, expression.node, types)
+        && link_below(expression.definition, definitions)
+        && expression_expressions_below(words, expression.origin, expression.node, expressions)
 }
 
 // ------------------------------------------------------------------ questions
@@ -281,15 +222,9 @@ fn context_linked(words: &[u32], m: u32, e: ExpressionId, t: Option<u32>) -> boo
     ensures { (file : List ℕ) → result
         ≡ question_linked (index_of file words.now) (model.Question.expr m e.0 (type_link_of t)) }
 {
-    if !records::has_module(words, m) {
-        return true;
-    }
-    let expressions = records::expression_count(words, m);
-    if expressions <= e.0 {
-        return true;
-    }
-    let types = records::type_expr_count(words, m);
-    link_below(t, types)
+    !records::has_module(words, m)
+        || records::expression_count(words, m) <= e.0
+        || link_below(t, records::type_expr_count(words, m))
 }
 
 // The T and the scope of a `type` question are the module's, if the module exists.
@@ -297,15 +232,8 @@ fn type_question_linked(words: &[u32], m: u32, t: u32, s: FileScopeId) -> bool
     ensures { (file : List ℕ) → result
         ≡ question_linked (index_of file words.now) (model.Question.type m t s.0) }
 {
-    if !records::has_module(words, m) {
-        return true;
-    }
-    let types = records::type_expr_count(words, m);
-    if types <= t {
-        return false;
-    }
-    let scopes = records::scope_count(words, m);
-    s.0 < scopes
+    !records::has_module(words, m)
+        || (t < records::type_expr_count(words, m) && s.0 < records::scope_count(words, m))
 }
 
 // The links of question `q` lead.
@@ -323,14 +251,15 @@ fn question_linked(words: &[u32], q: u32) -> bool
 
 // ------------------------------------------------------------------ the first row of a kind whose links don't lead
 
+// One function for each kind: each promise speaks of another list of the module, as that of records' `*_count` does.
+
 // The module's first scope whose parent is not as it must be.
 fn scope_fault(words: &[u32], m: u32) -> Option<u32>
     ensures { (file : List ℕ) → result
         ≡ first not (map_from scope_linked 0 (module_row file words.now m).scopes) }
 {
     let rows = records::rows_of(words, m, RowKind::Scope);
-    let begin = rows.first;
-    first_fault(rows.count, |s| scope_linked(words, begin, s))
+    (0..rows.count).find(|s| !scope_linked(words, rows.first, *s))
 }
 
 // The module's first T that names one which is not earlier.
@@ -339,8 +268,7 @@ fn type_fault(words: &[u32], m: u32) -> Option<u32>
         ≡ first not (map_from type_linked 0 (module_row file words.now m).types) }
 {
     let rows = records::rows_of(words, m, RowKind::TypeExpr);
-    let begin = rows.first;
-    first_fault(rows.count, |t| type_linked(words, begin, t))
+    (0..rows.count).find(|t| !type_linked(words, rows.first, *t))
 }
 
 // The module's first D with a link to no record of the module.
@@ -350,8 +278,7 @@ fn definition_fault(words: &[u32], m: u32) -> Option<u32>
         (module_row file words.now m).definitions) }
 {
     let rows = records::rows_of(words, m, RowKind::Definition);
-    let begin = rows.first;
-    first_fault(rows.count, |d| definition_linked(words, m, begin, d))
+    (0..rows.count).find(|d| !definition_linked(words, m, rows.first, *d))
 }
 
 // The module's first E with a link to no record of the module.
@@ -361,8 +288,7 @@ fn expression_fault(words: &[u32], m: u32) -> Option<u32>
         (module_row file words.now m).expressions) }
 {
     let rows = records::rows_of(words, m, RowKind::Expression);
-    let begin = rows.first;
-    first_fault(rows.count, |e| expression_linked(words, m, begin, e))
+    (0..rows.count).find(|e| !expression_linked(words, m, rows.first, *e))
 }
 
 // The number of the first question whose links don't lead.
@@ -372,7 +298,7 @@ pub fn question_fault(words: &[u32]) -> Option<usize>
         (index_of file words.now).questions) }
 {
     let count = records::question_count(words);
-    let fault = first_fault(count, |q| question_linked(words, q))?;
+    let fault = (0..count).find(|q| !question_linked(words, *q))?;
     Some(fault as usize)
 }
 

@@ -12,7 +12,8 @@ use Rattle.model.specs.Records.{Index}
 use Rattle.format.specs.LinkCheck.{question_linked, module_lines, modules_lines, linked_lines, link_fault}
 use Rattle.records.specs.Layout.{each, module_count, question_count, question_row, module_row, index_of}
 use Rattle.records.proofs.Lists.{each_unroll, each_ended, each_begun, each_length}
-use Rattle.links.proofs.Lines.{shifted, fault_in, part_hit, part_miss, last_hit, last_miss, first_below}
+use Rattle.records.proofs.Searches.{shifted}
+use Rattle.links.proofs.Lines.{fault_in, part_hit, part_miss, last_hit, last_miss, first_below}
 
 -- a place among the lines behind the first, as a line's number
 behind_first : (o : Option ℕ) → (let_some {B = Option ℕ} o None λ n. Some (2 + n)) ≡ shifted 2 o

@@ -10,7 +10,7 @@ ghost use Rattle.model.specs.Lookups.{resolve_name_at_position, definition_for_i
 ghost use Rattle.records.specs.Layout.{bytes_at, index_of};
 ghost use Rattle.lookup_bench.specs.Numbers.{link_number, module_to, in_module, LoadNumber};
 
-use records::{ExpressionId, FileScopeId, Index, Name, RecordNumber};
+use records::{ExpressionId, FileScopeId, Index, Name, RecordNumber, Span};
 
 // 0 for an accepted file, else the refusal's number. The words of the index are the first 16,384 of the buffer.
 #[unsafe(no_mangle)]
@@ -94,8 +94,10 @@ pub extern "C" fn bench_resolve_name_at_position(
         n,
         Name { start, length },
         FileScopeId(s),
-        from,
-        to,
+        Span {
+            start: from,
+            end: to,
+        },
     ))
 }
 

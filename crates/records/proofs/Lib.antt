@@ -3,6 +3,7 @@ pub mod Regions
 pub mod Congruence
 pub mod Words
 pub mod Lists
+pub mod Searches
 pub mod Options
 pub mod Packing
 pub mod Stores

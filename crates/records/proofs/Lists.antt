@@ -4,13 +4,14 @@ use Prim.Native.Nat.{ℕ, zero, suc, ◌+◌, ◌-◌, ◌≤◌, ◌<◌}
 use native.Mathlib.Nat.{not-suc-le-zero, le_of_suc-le-suc, add-zero, zero-add, sub-zero}
 use native.Mathlib.Omega.{arith}
 use mathlib.Core.List.{List, [], ◌∷◌, ◌++◌}
-use Rattle.std.specs.Prelude.{Option, None, Some, is_some, IfSome, option_map}
+use Rattle.std.specs.Prelude.{Option, None, Some, is_some, IfSome, MatchOption, option_map}
 use mathlib.Core.Bool.{Bool, true, false}
 use lib.Dec.{ltb}
 use borrow.Author.Tests.{ltb-true, ltb-false}
 use Rattle.std.specs.Prelude.{slice_get}
 use lib.ListN.{length}
 use Rattle.std.specs.Prelude.{if◌then◌else◌}
+use Rattle.model.specs.Common.{let_some}
 use Rattle.records.specs.Layout.{word, each, begin_of, count_of, rows_of}
 
 module _ {A : Type 0} (f : ℕ → A) where
@@ -55,6 +56,12 @@ module _ {A B : Type 0} (mean : A → B) (row : ℕ → B) (first count i : ℕ)
 pub as_it_is : {A : Type 0} (r : Option A) → r ≡ option_map (λ x. x) r
 as_it_is None = refl
 as_it_is (Some x) = refl
+
+-- what `is_some_and` says of an option whose value means another
+pub some_and : {A B : Type 0} (mean : A → B) (test : B → Bool) (P : A → Type 0) (r : Option A) (b : Bool) → MatchOption r (b ≡ false) P
+    → ((x : A) → P x → b ≡ test (mean x)) → b ≡ let_some (option_map mean r) false test
+some_and mean test P None b answer tests = answer
+some_and mean test P (Some x) b answer tests = tests x answer
 
 -- how many rows of a kind a module has
 module _ {A : Type 0} (row : ℕ → A) (words : List ℕ) (m kind count : ℕ) (counts : count ≡ count_of words m kind) where

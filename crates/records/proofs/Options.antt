@@ -1,8 +1,8 @@
 -- Laws of `option_at`, by which a number in a word picks a kind: an arm of a `match` on the number, a constant table of the code, two lists that
 -- agree where the number is. Assumes nothing.
-use mathlib.Core.Path.{◌≡◌, refl, sym, ap, ◌∙◌}
-use Prim.Native.Nat.{ℕ, zero, suc, ◌+◌, ◌≤◌, ◌<◌}
-use native.Mathlib.Nat.{not-suc-le-zero, le_of_suc-le-suc, add-zero, zero-add}
+use mathlib.Core.Path.{◌≡◌, refl, sym, ap, ap₂, ◌∙◌}
+use Prim.Native.Nat.{ℕ, zero, suc, ◌+◌, ◌≤◌}
+use native.Mathlib.Nat.{add-zero, zero-add}
 use native.Mathlib.Omega.{arith}
 use mathlib.Core.List.{List, [], ◌∷◌, ◌++◌, map}
 use lib.ListN.{get_or, length, get_or-eq_default}
@@ -55,12 +55,12 @@ pub options_same : {A : Type 0} (kind : ℕ) (options options' : List A) (last :
 unfolding option_at
 options_same kind options options' last h = agree_from 0 kind kind options options' last (sym (zero-add kind)) h
 
--- a constant table of the code holds the options in their order, the last one last
+-- a constant table of the code holds the options in their order, the last one last, and past its end the last is read
 module _ {A B : Type 0} (f : A → B) where
-  mapped_at : (table : List A) (kind : ℕ) (default : A) (last : B) → kind < length table → f (get_or table kind default) ≡ get_or (map f table) kind last
-  mapped_at [] kind default last h = absurd (not-suc-le-zero h)
-  mapped_at (x ∷ table) zero default last h = refl
-  mapped_at (x ∷ table) (suc kind) default last h = mapped_at table kind default last (le_of_suc-le-suc h)
+  mapped_at : (table : List A) (kind : ℕ) (default : A) → f (get_or table kind default) ≡ get_or (map f table) kind (f default)
+  mapped_at [] kind default = refl
+  mapped_at (x ∷ table) zero default = refl
+  mapped_at (x ∷ table) (suc kind) default = mapped_at table kind default
 
   last_default : (options : List B) (last : B) (kind : ℕ) → get_or (options ++ (last ∷ [])) kind last ≡ get_or options kind last
   last_default [] last zero = refl
@@ -68,8 +68,8 @@ module _ {A B : Type 0} (f : A → B) where
   last_default (y ∷ options) last zero = refl
   last_default (y ∷ options) last (suc kind) = last_default options last kind
 
-  pub option_mapped : (table : List A) (options : List B) (last : B) (kind : ℕ) (default : A) → kind < length table
-      → map f table ≡ options ++ (last ∷ []) → f (get_or table kind default) ≡ option_at kind options last
+  pub option_mapped : (table : List A) (options : List B) (last : B) (kind : ℕ) (default x : A) → x ≡ get_or table kind default → f default ≡ last
+      → map f table ≡ options ++ (last ∷ []) → f x ≡ option_at kind options last
   unfolding option_at
-  option_mapped table options last kind default h e =
-      mapped_at table kind default last h ∙ ap (λ l. get_or l kind last) e ∙ last_default options last kind
+  option_mapped table options last kind default x is ends e =
+      ap f is ∙ mapped_at table kind default ∙ ap₂ (λ l d. get_or l kind d) e ends ∙ last_default options last kind

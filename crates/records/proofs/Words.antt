@@ -1,15 +1,9 @@
 -- Laws of the forms of a word. Assumes nothing.
 use mathlib.Core.Path.{◌≡◌, refl, sym, ap, ap₂}
-use Prim.Native.Nat.{ℕ, zero, suc, ◌-◌}
-use native.Mathlib.Omega.{arith}
+use Prim.Native.Nat.{ℕ, zero, suc}
 use mathlib.Core.List.{List}
 use Rattle.std.specs.Prelude.{None, Some}
-use Rattle.records.specs.Layout.{link_by, bytes_at, start_of, length_of, name_by, suffix_by}
-
--- a word that isn't 0 is a link to the number below it
-pub link_some : (v : ℕ) → (v ≡ 0 → ⊥) → Some (v - 1) ≡ link_by v
-link_some zero h = absurd (h refl)
-link_some (suc n) h = let below : suc n - 1 ≡ n = omega arith in ap Some below
+use Rattle.records.specs.Layout.{bytes_at, start_of, length_of, name_by, suffix_by}
 
 pub suffix_none : (file : List ℕ) (v : ℕ) → v ≡ 0 → None ≡ suffix_by file v
 unfolding suffix_by

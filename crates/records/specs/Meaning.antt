@@ -6,6 +6,7 @@ use Rattle.records.specs.declared.FileScopeId.{FileScopeId}
 use Rattle.records.specs.declared.DefinitionIndex.{DefinitionIndex}
 use Rattle.records.specs.declared.ExpressionId.{ExpressionId}
 use Rattle.records.specs.declared.Name.{Name}
+use Rattle.records.specs.declared.NameWithType.{NameWithType}
 use Rattle.records.specs.declared.Items.{Items}
 use Rattle.records.specs.declared.ScopeKind.{ScopeKind}
 use Rattle.records.specs.declared.Scope.{Scope}
@@ -94,10 +95,10 @@ definition_of file words d =
     record {
       scope = d.scope.0;
       name = name_of file d.name;
-      name_start = d.name_start;
-      name_end = d.name_end;
-      full_start = d.full_start;
-      full_end = d.full_end;
+      name_start = d.name_span.start;
+      name_end = d.name_span.end;
+      full_start = d.full_span.start;
+      full_end = d.full_span.end;
       kind = definition_kind_of file words d.kind;
     }
 
@@ -144,7 +145,7 @@ expression_of file words (Expression.Binary op a b) =
 expression_of file words (Expression.FunctionCall e l) = model.Expression.FunctionCall (expression_link_of e) (links_of words l)
 expression_of file words (Expression.MemberAccess e n) = model.Expression.MemberAccess (expression_link_of e) (name_of file n)
 expression_of file words (Expression.IndexAccess a b) = model.Expression.IndexAccess (expression_link_of a) (expression_link_of b)
-expression_of file words (Expression.StructLiteral n start end) = model.Expression.StructLiteral (name_of file n) start end
+expression_of file words (Expression.StructLiteral n span) = model.Expression.StructLiteral (name_of file n) span.start span.end
 expression_of file words (Expression.Tuple l) = model.Expression.Tuple (links_of words l)
 expression_of file words (Expression.TupleIndex e i) = model.Expression.TupleIndex (expression_link_of e) i
 expression_of file words (Expression.ArrayLiteral l) = model.Expression.ArrayLiteral (links_of words l)
@@ -157,8 +158,8 @@ abbrev pub info_of : List ℕ → List ℕ → ExpressionInfo → model.Expressi
 info_of file words e =
     record {
       scope = e.scope.0;
-      start = e.start;
-      end = e.end;
+      start = e.span.start;
+      end = e.span.end;
       expected = type_link_of e.expected;
       definition = definition_link_of e.definition;
       origin = origin_of file e.origin;
@@ -182,8 +183,8 @@ found_question_of = option_map question_of
 abbrev pub link_item_of : Option (Option ExpressionId) → Option (Option ℕ)
 link_item_of = option_map expression_link_of
 
-abbrev pub named_type_of : List ℕ → Name × ℕ → model.NameWithType
-named_type_of file item = record { name = name_of file item.0; type = item.1 }
+abbrev pub named_type_of : List ℕ → NameWithType → model.NameWithType
+named_type_of file item = record { name = name_of file item.name; type = item.type_expr }
 
-abbrev pub name_with_type_item_of : List ℕ → Option (Name × ℕ) → Option model.NameWithType
+abbrev pub name_with_type_item_of : List ℕ → Option NameWithType → Option model.NameWithType
 name_with_type_item_of file = option_map (named_type_of file)

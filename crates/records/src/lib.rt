@@ -1,7 +1,8 @@
 // The records of a loaded index, read from the record words. Any words hold some index: see specs/Layout.antt.
 #![tactic(auto)]
 
-ghost use Rattle.std.specs.Prelude.{◌≡◌, ℕ, ◌+◌, List, None, Some, if◌then◌else◌, length, option_map, slice_get};
+ghost use Rattle.std.specs.Prelude.{◌≡◌, ℕ, ◌+◌, ◌&&◌, leb, List, None, Some, if◌then◌else◌, length};
+ghost use Rattle.std.specs.Prelude.{option_map, slice_get};
 ghost use Rattle.model.specs.Lookups.{module_at, scope_at, type_expr_at, definition_at, expression_at};
 ghost use Rattle.records.specs.Layout.{word, link_by, name_by, suffix_by, size_by, item_value, item_name};
 ghost use Rattle.records.specs.Layout.{scope_kind_by, type_expr_by, definition_kind_by, origin_by, unary_op_by};
@@ -87,7 +88,8 @@ impl RecordNumber for ExpressionId {
     }
 }
 
-// A loaded index: the bytes of the file and its record words, which are read together.
+// A loaded index: the bytes of the file and its record words, which are read together. A module of it is a number beside it, `m`, as `s`, `d` and `e` say
+// which record: a demand, a question and a type name their module by its number too, so a struct of the words and `m` would be made anew at each of these.
 #[derive(Clone, Copy)]
 pub struct Index<'a> {
     pub file: &'a [u8],
@@ -101,7 +103,31 @@ pub struct Name {
     pub length: u32,
 }
 
-// A list is a range of item rows.
+// The bytes from `start` up to `end`.
+#[derive(Clone, Copy)]
+pub struct Span {
+    pub start: u32,
+    pub end: u32,
+}
+
+impl Span {
+    // Whether the other span lies within this one.
+    pub fn contains(self, inner: Span) -> bool
+        ensures { result ≡ (leb self.start inner.start && leb inner.end self.end) }
+    {
+        self.start <= inner.start && inner.end <= self.end
+    }
+}
+
+// A field of a struct, or a parameter of a function: its name and the number of its T.
+#[derive(Clone, Copy)]
+pub struct NameWithType {
+    pub name: Name,
+    pub type_expr: u32,
+}
+
+// A list is a range of item rows. `Rows` below and type_table's `TypeList` are ranges too, but of other rows: each is a type of its own, so that none stands
+// for another.
 #[derive(Clone, Copy)]
 pub struct Items {
     pub first: u32,
@@ -151,10 +177,8 @@ pub enum DefinitionKind {
 pub struct Definition {
     pub scope: FileScopeId,
     pub name: Name,
-    pub name_start: u32,
-    pub name_end: u32,
-    pub full_start: u32,
-    pub full_end: u32,
+    pub name_span: Span,
+    pub full_span: Span,
     pub kind: DefinitionKind,
 }
 
@@ -205,7 +229,7 @@ pub enum Expression {
     FunctionCall(Option<ExpressionId>, Items),
     MemberAccess(Option<ExpressionId>, Name),
     IndexAccess(Option<ExpressionId>, Option<ExpressionId>),
-    StructLiteral(Name, u32, u32),
+    StructLiteral(Name, Span),
     Tuple(Items),
     TupleIndex(Option<ExpressionId>, u32),
     ArrayLiteral(Items),
@@ -218,8 +242,7 @@ pub enum Expression {
 #[derive(Clone, Copy)]
 pub struct ExpressionInfo {
     pub scope: FileScopeId,
-    pub start: u32,
-    pub end: u32,
+    pub span: Span,
     pub expected: Option<u32>,
     pub definition: Option<DefinitionIndex>,
     pub origin: Origin,
@@ -271,7 +294,9 @@ pub const MODULE_COUNT: usize = 0;
 
 pub const QUESTION_COUNT: usize = 1;
 
-// What a word of these kinds means, by its number. A number past a table's last means the last.
+// What a word of these kinds means, by its number. A number past a table's last means the last. Kinds whose rows hold more than the number are read by a
+// `match` of it (`type_expr_of`, `definition_kind`, `origin_of`, `expression_of`, `question_of`): the rows are lent words, and these functions are the one
+// place that gives the numbers a meaning (docs/LAYOUT.md).
 const SCOPE_KINDS: [ScopeKind; 4] = [
     ScopeKind::Module,
     ScopeKind::Function,
@@ -304,7 +329,7 @@ const BINARY_OPS: [BinaryOp; 16] = [
 pub fn word_at(words: &[u32], i: usize) -> u32
     ensures { result ≡ word words.now i }
 {
-    if i < words.len() { words[i] } else { 0 }
+    words.get(i).copied().unwrap_or(0)
 }
 
 // The name that a word holds.
@@ -363,12 +388,10 @@ pub fn rows_of(words: &[u32], m: u32, kind: RowKind) -> Rows
 fn scope_kind(kind: u32) -> ScopeKind
     ensures { scope_kind_of result ≡ scope_kind_by kind }
 {
-    let i = kind as usize;
-    if i < 4 {
-        SCOPE_KINDS[i]
-    } else {
-        SCOPE_KINDS[3]
-    }
+    SCOPE_KINDS
+        .get(kind as usize)
+        .copied()
+        .unwrap_or(ScopeKind::Loop)
 }
 
 // The scope at row `first + i`, where the rows of its module begin at `first`.
@@ -401,7 +424,7 @@ pub fn scope_count(words: &[u32], m: u32) -> u32
 // ------------------------------------------------------------------ type expressions
 
 // A size below 2^64, the low word first.
-fn size_of(low: u32, high: u32) -> u64
+pub fn size_of(low: u32, high: u32) -> u64
     ensures { result ≡ size_by low high }
 {
     (low as u64) + 4294967296 * (high as u64)
@@ -490,10 +513,14 @@ pub fn definition_row(words: &[u32], first: u32, i: u32) -> Definition
     Definition {
         scope: FileScopeId(scope),
         name,
-        name_start,
-        name_end,
-        full_start,
-        full_end,
+        name_span: Span {
+            start: name_start,
+            end: name_end,
+        },
+        full_span: Span {
+            start: full_start,
+            end: full_end,
+        },
         kind,
     }
 }
@@ -554,19 +581,16 @@ fn origin_of(kind: u32, link: u32, value: u32) -> Origin
 fn unary_op(op: u32) -> UnaryOp
     ensures { unary_op_of result ≡ unary_op_by op }
 {
-    let i = op as usize;
-    if i < 2 { UNARY_OPS[i] } else { UNARY_OPS[1] }
+    UNARY_OPS.get(op as usize).copied().unwrap_or(UnaryOp::Neg)
 }
 
 fn binary_op(op: u32) -> BinaryOp
     ensures { binary_op_of result ≡ binary_op_by op }
 {
-    let i = op as usize;
-    if i < 16 {
-        BINARY_OPS[i]
-    } else {
-        BINARY_OPS[15]
-    }
+    BINARY_OPS
+        .get(op as usize)
+        .copied()
+        .unwrap_or(BinaryOp::BitwiseXor)
 }
 
 // A node by its number and the last three words of its row.
@@ -582,7 +606,7 @@ fn expression_of(kind: u32, a: u32, b: u32, c: u32) -> Expression
         5 => Expression::FunctionCall(link(a), items_of(c)),
         6 => Expression::MemberAccess(link(a), name_of(b)),
         7 => Expression::IndexAccess(link(a), link(b)),
-        8 => Expression::StructLiteral(name_of(a), b, c),
+        8 => Expression::StructLiteral(name_of(a), Span { start: b, end: c }),
         9 => Expression::Tuple(items_of(c)),
         10 => Expression::TupleIndex(link(a), b),
         11 => Expression::ArrayLiteral(items_of(c)),
@@ -613,8 +637,7 @@ pub fn expression_row(words: &[u32], first: u32, i: u32) -> ExpressionInfo
     let node = expression_of(kinds % 256, a, b, c);
     ExpressionInfo {
         scope: FileScopeId(scope),
-        start,
-        end,
+        span: Span { start, end },
         expected,
         definition,
         origin,
@@ -758,14 +781,12 @@ pub fn link_item(words: &[u32], items: Items, i: u32) -> Option<Option<Expressio
 }
 
 // A field of a struct, or a parameter of a function.
-pub fn name_with_type_item(words: &[u32], items: Items, i: u32) -> Option<(Name, u32)>
+pub fn name_with_type_item(words: &[u32], items: Items, i: u32) -> Option<NameWithType>
     ensures { (file : List ℕ) → name_with_type_item_of file result
         ≡ slice_get (names_with_types_of file words.now items) i }
 {
-    (i < items.count).then(|| {
-        (
-            item_name(words, items.first, i),
-            item_value(words, items.first, i),
-        )
+    (i < items.count).then(|| NameWithType {
+        name: item_name(words, items.first, i),
+        type_expr: item_value(words, items.first, i),
     })
 }

@@ -2,20 +2,33 @@
 use Prim.Native.Nat.{ℕ, suc, ◌+◌, ◌-◌, ◌≤◌, ◌<◌}
 use native.Mathlib.Omega.{arith}
 use mathlib.Core.Path.{◌≡◌, sym, ap, ap₂, subst, ◌∙◌}
-use mathlib.Core.Bool.{Bool, true, false, ◌&&◌}
+use mathlib.Core.Bool.{Bool, true, false, ◌&&◌, false≢true}
 use mathlib.Core.List.{List, [], ◌∷◌, ◌++◌}
-use Rattle.std.specs.Prelude.{Option, None, Some}
+use Rattle.std.specs.Prelude.{Option, None, Some, MatchOption}
 use lib.Dec.{leb, ltb}
-use borrow.Author.Tests.{le-leb, lt-leb, lt-ltb, le-ltb}
+use borrow.Author.Tests.{le-leb, lt-leb, lt-ltb, le-ltb, ltb-true, ltb-false}
 use Rattle.std.specs.Prelude.{if◌then◌else◌}
+use Rattle.model.specs.Common.{let_some}
 use Rattle.model.specs.Records.{ExpressionInfo}
 use Rattle.model.specs.Lookups.{covers, span, expression_at_position}
 use Rattle.model.specs.AtPosition.{Best, better, turn, best_number}
 use Rattle.model.proofs.AtPosition.{Kept, kept_start, kept_turn, kept_chosen, chosen_found}
 use Rattle.records.specs.Layout.{each, begin_of, count_of, expression_rows, expression_row, rows_of, module_row}
-use Rattle.records.proofs.Lists.{each_length, each_snoc}
+use Rattle.records.proofs.Lists.{each_length, each_snoc, some_and}
+use Rattle.semantic_index.specs.Meaning.{best_of}
+use Rattle.semantic_index.specs.declared.Best.{Best as Found}
 
 -- ------------------------------------------------------------------ one turn
+
+-- whether there is a best so far that is shorter
+abbrev pub kept : ℕ → Option Best → Bool
+kept length best = let_some best false (λ best. ltb best.length length)
+
+-- what `is_some_and` says of the best so far, whose closure compares the lengths
+pub kept_by : (length : ℕ) (P : Found → Type 0) (best : Option Found) (b : Bool) → MatchOption best (b ≡ false) P
+    → ((x : Found) → P x → b ≡ ltb x.length length) → kept length (best_of best) ≡ b
+kept_by length P best b answer tests =
+    sym (some_and (λ best. record { number = best.number; length = best.length }) (λ best. ltb best.length length) P best b answer tests)
 
 -- an expression whose start and end were read
 module _ (position number start end : ℕ) (x : ExpressionInfo) (is_start : start ≡ x.start) (is_end : end ≡ x.end) where
@@ -45,20 +58,29 @@ module _ (position number start end : ℕ) (x : ExpressionInfo) (is_start : star
       abbrev found : ℕ → Option Best
       found length = Some (record { number = number; length = length })
 
-      pub turn_first : found (end - start) ≡ turn position number None x
+      turn_first : found (end - start) ≡ turn position number None x
       unfolding turn better
       turn_first = ap found its_span ∙ ap (λ b. if b then found (span x) else None) (sym covering)
 
-      pub turn_longer : (best : Best) → best.length < end - start → Some best ≡ turn position number (Some best) x
+      turn_longer : (best : Best) → best.length < end - start → Some best ≡ turn position number (Some best) x
       unfolding turn better
       turn_longer best less =
           ap₂ (λ b c. if (b && c) then found (span x) else Some best) (sym covering) (sym (lt-leb (span x) best.length (subst (λ n. best.length < n) its_span less)))
 
-      pub turn_shorter : (best : Best) → end - start ≤ best.length → found (end - start) ≡ turn position number (Some best) x
+      turn_shorter : (best : Best) → end - start ≤ best.length → found (end - start) ≡ turn position number (Some best) x
       unfolding turn better
       turn_shorter best least =
           ap found its_span
           ∙ ap₂ (λ b c. if (b && c) then found (span x) else Some best) (sym covering) (sym (le-leb (span x) best.length (subst (λ n. n ≤ best.length) its_span least)))
+
+      -- the best so far stays where it is shorter
+      pub turn_kept : (best : Option Best) → kept (end - start) best ≡ true → best ≡ turn position number best x
+      turn_kept None e = absurd (false≢true e)
+      turn_kept (Some best) e = turn_longer best (ltb-true best.length (end - start) e)
+
+      pub turn_taken : (best : Option Best) → kept (end - start) best ≡ false → found (end - start) ≡ turn position number best x
+      turn_taken None e = turn_first
+      turn_taken (Some best) e = turn_shorter best (ltb-false best.length (end - start) e)
 
 -- ------------------------------------------------------------------ the run
 

@@ -16,10 +16,11 @@ ghost use Rattle.model.specs.AtPosition.{turn};
 ghost use Rattle.records.specs.Layout.{scope_row, definition_row, expression_row, module_row, index_of};
 ghost use Rattle.records.specs.Meaning.{name_of, scope_link_of, definition_link_of, expression_link_of};
 ghost use Rattle.records.specs.Meaning.{definition_of, definition_kind_of};
-ghost use Rattle.semantic_index.specs.Meaning.{best_of, FirstInChain, LastThat};
+ghost use Rattle.semantic_index.specs.Meaning.{best_of, FirstInChain};
 
 use records::{
     Definition, DefinitionIndex, DefinitionKind, ExpressionId, FileScopeId, Index, Name, RowKind,
+    Span,
 };
 
 // ------------------------------------------------------------------ scopes
@@ -45,14 +46,8 @@ pub fn root_scope(words: &[u32], m: u32) -> Option<FileScopeId>
     ensures { (file : List ℕ) → scope_link_of result ≡ root_scope (module_row file words.now m) }
 {
     let rows = records::rows_of(words, m, RowKind::Scope);
-    let first = rows.first;
-    let count = rows.count;
-    for s in 0..count {
-        if is_root(words, first, s) {
-            return Some(FileScopeId(s));
-        }
-    }
-    None
+    let s = (0..rows.count).find(|s| is_root(words, rows.first, *s))?;
+    Some(FileScopeId(s))
 }
 
 // ------------------------------------------------------------------ modules
@@ -62,13 +57,9 @@ pub fn module_by_name(index: &Index, name: Name) -> Option<u32>
     ensures { result
         ≡ module_by_name (index_of index.now.file.now index.now.words.now) (name_of index.now.file.now name) }
 {
-    let count = records::module_count(index.words);
-    for m in 0..count {
-        if names::same_name(index.file, records::module_name(index.words, m), name) {
-            return Some(m);
-        }
-    }
-    None
+    (0..records::module_count(index.words)).find(|m| {
+        names::same_name(index.file, records::module_name(index.words, *m), name)
+    })
 }
 
 // ------------------------------------------------------------------ definitions by name
@@ -79,28 +70,12 @@ fn is_named(index: &Index, first: u32, d: u32, s: FileScopeId, name: Name) -> bo
         ≡ named s.0 (name_of index.now.file.now name)
         (definition_row index.now.file.now index.now.words.now (first + d)) }
 {
-    let scope = records::definition_scope(index.words, first, d);
-    if scope.0 != s.0 {
-        return false;
-    }
-    names::same_name(
-        index.file,
-        records::definition_name(index.words, first, d),
-        name,
-    )
-}
-
-// The last of so many definitions that passes the test.
-fn last_that<F: Fn(u32) -> bool>(count: u32, test: F) -> Option<DefinitionIndex>
-    requires { F.IsAlwaysCallable test }
-    ensures { LastThat (F.post test) count result }
-{
-    for d in (0..count).rev() {
-        if test(d) {
-            return Some(DefinitionIndex(d));
-        }
-    }
-    None
+    records::definition_scope(index.words, first, d) == s
+        && names::same_name(
+            index.file,
+            records::definition_name(index.words, first, d),
+            name,
+        )
 }
 
 // The scope's last definition of the name.
@@ -115,8 +90,10 @@ pub fn latest_definition_index_by_name(
         (name_of index.now.file.now name) }
 {
     let rows = records::rows_of(index.words, m, RowKind::Definition);
-    let first = rows.first;
-    last_that(rows.count, |d| is_named(index, first, d, s, name))
+    let d = (0..rows.count)
+        .rev()
+        .find(|d| is_named(index, rows.first, *d, s, name))?;
+    Some(DefinitionIndex(d))
 }
 
 // What `find` finds in the first scope of the chain in which it finds something, going up the parents. A parent has a lower number, so s + 1 scopes are
@@ -182,54 +159,37 @@ fn let_value(kind: DefinitionKind) -> Option<ExpressionId>
     }
 }
 
-// Whether the span from `start` to `end` lies within the expression's.
-fn covers(words: &[u32], m: u32, e: ExpressionId, start: u32, end: u32) -> bool
+// Whether the span lies within the expression's.
+fn covers(words: &[u32], m: u32, e: ExpressionId, span: Span) -> bool
     ensures { (file : List ℕ) → result
-        ≡ covered (expression_at (module_row file words.now m) e.0) start end }
+        ≡ covered (expression_at (module_row file words.now m) e.0) span.start span.end }
 {
-    let Some(init) = records::expression_at(words, m, e) else {
-        return false;
-    };
-    if start < init.start {
-        return false;
-    }
-    end <= init.end
+    records::expression_at(words, m, e).is_some_and(|init| init.span.contains(span))
 }
 
 // Whether the span lies within the initializer of this let.
-fn in_let_initializer(words: &[u32], m: u32, definition: Definition, start: u32, end: u32) -> bool
+fn in_let_initializer(words: &[u32], m: u32, definition: Definition, span: Span) -> bool
     ensures { (file : List ℕ) → result
         ≡ in_let_initializer (module_row file words.now m)
-        (definition_of file words.now definition) start end }
+        (definition_of file words.now definition) span.start span.end }
 {
-    let kind = definition.kind;
-    let Some(e) = let_value(kind) else {
-        return false;
-    };
-    covers(words, m, e, start, end)
+    let_value(definition.kind).is_some_and(|e| covers(words, m, e, span))
 }
 
 // Whether the definition may stand behind its use, or stands before it.
 fn in_order(definition: Definition, start: u32) -> bool
     ensures { (file words : List ℕ) → result ≡ in_order (definition_of file words definition) start }
 {
-    let kind = definition.kind;
-    if is_top_level_allowed(kind) {
-        return true;
-    }
-    definition.full_start <= start
+    is_top_level_allowed(definition.kind) || definition.full_span.start <= start
 }
 
 // Whether the definition may be meant by its name at the span.
-fn visible_at(words: &[u32], m: u32, definition: Definition, start: u32, end: u32) -> bool
+fn visible_at(words: &[u32], m: u32, definition: Definition, span: Span) -> bool
     ensures { (file : List ℕ) → result
         ≡ visible_at (module_row file words.now m)
-        (definition_of file words.now definition) start end }
+        (definition_of file words.now definition) span.start span.end }
 {
-    if !in_order(definition, start) {
-        return false;
-    }
-    !in_let_initializer(words, m, definition, start, end)
+    in_order(definition, span.start) && !in_let_initializer(words, m, definition, span)
 }
 
 // Whether a definition of the module is one of the name in the scope, and visible at the span.
@@ -240,45 +200,40 @@ fn is_named_and_visible(
     d: u32,
     s: FileScopeId,
     name: Name,
-    start: u32,
-    end: u32,
+    span: Span,
 ) -> bool
     ensures { result
         ≡ named_and_visible (module_row index.now.file.now index.now.words.now m) s.0
-        (name_of index.now.file.now name) start end
+        (name_of index.now.file.now name) span.start span.end
         (definition_row index.now.file.now index.now.words.now (first + d)) }
 {
-    if !is_named(index, first, d, s, name) {
-        return false;
-    }
-    visible_at(
-        index.words,
-        m,
-        records::definition_row(index.words, first, d),
-        start,
-        end,
-    )
+    is_named(index, first, d, s, name)
+        && visible_at(
+            index.words,
+            m,
+            records::definition_row(index.words, first, d),
+            span,
+        )
 }
 
-// One turn of `resolve_name_at_position`: the scope's last definition of the name that is visible at the span.
+// One turn of `resolve_name_at_position`: the scope's last definition of the name that is visible at the span. What it shares with
+// `latest_definition_index_by_name` is std's search.
 fn latest_visible_by_name(
     index: &Index,
     m: u32,
     s: FileScopeId,
     name: Name,
-    start: u32,
-    end: u32,
+    span: Span,
 ) -> Option<DefinitionIndex>
     ensures { definition_link_of result
         ≡ latest_visible_by_name (module_row index.now.file.now index.now.words.now m) s.0
-        (name_of index.now.file.now name) start end }
+        (name_of index.now.file.now name) span.start span.end }
 {
     let rows = records::rows_of(index.words, m, RowKind::Definition);
-    let first = rows.first;
-    last_that(
-        rows.count,
-        |d| is_named_and_visible(index, m, first, d, s, name, start, end),
-    )
+    let d = (0..rows.count).rev().find(|d| {
+        is_named_and_visible(index, m, rows.first, *d, s, name, span)
+    })?;
+    Some(DefinitionIndex(d))
 }
 
 // In the first scope of the chain that has one.
@@ -287,18 +242,17 @@ pub fn resolve_name_at_position(
     m: u32,
     name: Name,
     s: FileScopeId,
-    start: u32,
-    end: u32,
+    span: Span,
 ) -> Option<DefinitionIndex>
     ensures { definition_link_of result
         ≡ resolve_name_at_position (module_row index.now.file.now index.now.words.now m)
-        (name_of index.now.file.now name) s.0 start end }
+        (name_of index.now.file.now name) s.0 span.start span.end }
 {
     first_in_chain(
         index.words,
         m,
         s,
-        |scope| latest_visible_by_name(index, m, scope, name, start, end),
+        |scope| latest_visible_by_name(index, m, scope, name, span),
     )
 }
 
@@ -317,14 +271,21 @@ pub fn definition_for_identifier_expr(
 
 // ------------------------------------------------------------------ the expression at a byte
 
+// The best expression so far: its number, and the length of its span.
+#[derive(Clone, Copy)]
+struct Best {
+    number: u32,
+    length: u32,
+}
+
 // The best with one expression more, of a module whose expressions begin at row `first`: it takes the place of the best if it covers the byte and is not longer.
 fn shortest_with(
     words: &[u32],
     first: u32,
     e: u32,
     position: u32,
-    best: Option<(u32, u32)>,
-) -> Option<(u32, u32)>
+    best: Option<Best>,
+) -> Option<Best>
     ensures { (file : List ℕ) → best_of result
         ≡ turn position e (best_of best) (expression_row file words.now (first + e)) }
 {
@@ -336,17 +297,11 @@ fn shortest_with(
     if end <= position {
         return best;
     }
-    let span = end - start;
-    match best {
-        None => Some((e, span)),
-        Some((number, least)) => {
-            if least < span {
-                Some((number, least))
-            } else {
-                Some((e, span))
-            }
-        }
+    let length = end - start;
+    if best.is_some_and(|least| least.length < length) {
+        return best;
     }
+    Some(Best { number: e, length })
 }
 
 // The shortest expression of the module that covers the byte, of equally short ones that with the highest number.
@@ -361,8 +316,8 @@ pub fn expression_at_position(words: &[u32], m: u32, position: u32) -> Option<Ex
     for e in 0..count {
         best = shortest_with(words, first, e, position, best);
     }
-    let (number, _) = best?;
-    Some(ExpressionId(number))
+    let found = best?;
+    Some(ExpressionId(found.number))
 }
 
 // ------------------------------------------------------------------ the function of a `return`
@@ -382,7 +337,8 @@ fn is_function_row(words: &[u32], first: u32, d: u32) -> bool
     is_function(kind)
 }
 
-// The first function definition whose scope is the given one or an ancestor.
+// The first function definition whose scope is the given one or an ancestor. Two loops, of which the inner one goes up the ancestors and the outer one is
+// left by its label at the first fit: document 01 names this form.
 pub fn first_function_around(words: &[u32], m: u32, s: FileScopeId) -> Option<DefinitionIndex>
     ensures { (file : List ℕ) → definition_link_of result
         ≡ first_function_around (module_row file words.now m) s.0 }
@@ -397,7 +353,7 @@ pub fn first_function_around(words: &[u32], m: u32, s: FileScopeId) -> Option<De
             let scope = records::definition_scope(words, first, d);
             let mut at = s;
             for _ in 0..enough {
-                if scope.0 == at.0 {
+                if scope == at {
                     found = Some(DefinitionIndex(d));
                     break 'definitions;
                 }

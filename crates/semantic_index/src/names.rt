@@ -10,7 +10,7 @@ use records::Name;
 pub fn byte_at(bytes: &[u8], i: usize) -> u8
     ensures { result ≡ word bytes.now i }
 {
-    if i < bytes.len() { bytes[i] } else { 0 }
+    bytes.get(i).copied().unwrap_or(0)
 }
 
 // Whether `count` bytes from `i` in one slice are those from `j` in another. A name may lie past its file's end, where bytes count as 0: there is no slice
@@ -18,34 +18,20 @@ pub fn byte_at(bytes: &[u8], i: usize) -> u8
 fn same_bytes(a: &[u8], i: u32, b: &[u8], j: u32, count: u32) -> bool
     ensures { result ≡ eq_numbers (bytes_at a.now i count) (bytes_at b.now j count) }
 {
-    for k in 0..count {
-        let left = byte_at(a, (i as usize) + (k as usize));
-        let right = byte_at(b, (j as usize) + (k as usize));
-        if left != right {
-            return false;
-        }
-    }
-    true
+    (0..count).all(|k| {
+        byte_at(a, (i as usize) + (k as usize)) == byte_at(b, (j as usize) + (k as usize))
+    })
 }
 
 pub fn same_name(file: &[u8], a: Name, b: Name) -> bool
     ensures { result ≡ eq_numbers (name_of file.now a) (name_of file.now b) }
 {
-    let count = a.length;
-    let other = b.length;
-    if count != other {
-        return false;
-    }
-    same_bytes(file, a.start, file, b.start, count)
+    a.length == b.length && same_bytes(file, a.start, file, b.start, a.length)
 }
 
 // Whether a name is a fixed byte string.
 pub fn is_text(file: &[u8], name: Name, text: &[u8]) -> bool
     ensures { result ≡ eq_numbers (name_of file.now name) text.now }
 {
-    let count = name.length;
-    if (count as usize) != text.len() {
-        return false;
-    }
-    same_bytes(file, name.start, text, 0, count)
+    (name.length as usize) == text.len() && same_bytes(file, name.start, text, 0, name.length)
 }

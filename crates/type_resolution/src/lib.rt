@@ -315,10 +315,10 @@ fn def(
         }
         DefinitionKind::Parameter(t) => ast_type(index, types, demands, depth, m, t, s),
         DefinitionKind::Use(home, item) => {
-            let Some((k, x)) = views::imported_definition(index, home, item) else {
+            let Some(imported) = views::imported_definition(index, home, item) else {
                 return Ok(type_table::ERROR);
             };
-            def_type(index, types, demands, depth, k, x)
+            def_type(index, types, demands, depth, imported.source, imported.definition)
         }
         DefinitionKind::LoopVariable => Ok(type_table::FELT),
     }
@@ -489,10 +489,12 @@ fn origin(
     match info.origin {
         Origin::Plain => Ok(None),
         Origin::StructField(parent, field) => {
-            let Some((t, scope)) = views::field_type_expr(index, m, parent, field) else {
+            let Some(typed) = views::field_type_expr(index, m, parent, field) else {
                 return Ok(None);
             };
-            let found = ast_type(index, types, demands, depth, m, t, scope)?;
+            let found = ast_type(
+                index, types, demands, depth, m, typed.type_expr, typed.scope,
+            )?;
             Ok(Some(found))
         }
         Origin::Arg(callee, i) => {
@@ -552,8 +554,7 @@ fn node(
                 m,
                 info.definition,
                 s,
-                info.start,
-                info.end,
+                info.span,
                 name,
             ) else {
                 return Ok(type_table::ERROR);
@@ -571,8 +572,8 @@ fn node(
             index, types, demands, depth, m, object, field,
         ),
         Expression::IndexAccess(a, i) => crate::index(index, types, demands, depth, m, a, i),
-        Expression::StructLiteral(name, start, end) => {
-            let found = semantic_index::resolve_name_at_position(index, m, name, s, start, end);
+        Expression::StructLiteral(name, span) => {
+            let found = semantic_index::resolve_name_at_position(index, m, name, s, span);
             named(index, types, demands, depth, m, found)
         }
         Expression::Tuple(list) => tuple(index, types, demands, depth, m, context, list),

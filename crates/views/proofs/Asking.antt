@@ -1,18 +1,22 @@
 -- What a question asks at a line's number. Assumes nothing.
-use Prim.Native.Nat.{ℕ, zero, suc, ◌≤◌, ◌<◌}
+use Prim.Native.Nat.{ℕ, zero, suc, ◌<◌}
 use native.Mathlib.Omega.{arith}
-use mathlib.Core.Path.{◌≡◌, refl, sym, ◌∙◌, ap}
-use Rattle.std.specs.Prelude.{None, Some}
+use mathlib.Core.Path.{◌≡◌, refl, sym, ap}
+use mathlib.Core.Bool.{false≢true}
+use mathlib.Core.List.{[], ◌∷◌}
+use lib.Dec.{eqb}
+use borrow.Author.Tests.{eqb-true}
+use Rattle.std.specs.Prelude.{Option, None, Some, is_some, IfSome, option_map}
 use Rattle.std.specs.Prelude.{slice_get}
 use Rattle.model.specs.Common.{let_some}
 use Rattle.model.specs.Records.{Question, Module, Index}
 use Rattle.model.specs.Lookups.{module_at, expression_at_position}
-use Rattle.records.specs.Meaning.{question_of}
-use Rattle.records.specs.declared.Question as code
-use Rattle.resolution.specs.Asked.{Asked, question_asked}
+use Rattle.resolution.specs.Asked.{question_asked}
+use Rattle.views.specs.declared.Asked.{Asked as Code}
+use Rattle.views.specs.Asking.{asked_of}
 use Rattle.views.specs.Reads.{position_expression}
 
-pub asked_past : (index : Index) (question : Question) (n : ℕ) → 0 < n → None ≡ slice_get (question_asked index question) n
+asked_past : (index : Index) (question : Question) (n : ℕ) → 0 < n → None ≡ slice_get (question_asked index question) n
 unfolding question_asked
 asked_past index question zero h = absurd (omega arith)
 asked_past index (Question.expr m e context) (suc n) h = refl
@@ -20,10 +24,13 @@ asked_past index (Question.def m d) (suc n) h = refl
 asked_past index (Question.type m t s) (suc n) h = refl
 asked_past index (Question.at m position) (suc n) h = refl
 
-pub asked_first : (index : Index) (x v : code.Question) (about : Asked) (n : ℕ) → x ≡ v → n ≤ 0 → slice_get (question_asked index (question_of v)) 0 ≡ Some about
-    → Some about ≡ slice_get (question_asked index (question_of x)) n
-asked_first index x v about zero e h is = sym is ∙ ap (λ q. slice_get (question_asked index (question_of q)) 0) (sym e)
-asked_first index x v about (suc n) e h is = absurd (omega arith)
+-- what `then` gives of a question's one line
+pub asked_by : (index : Index) (question : Question) (n : ℕ) (P : Code → Type 0) → ((x : Code) → P x → question_asked index question ≡ asked_of x ∷ [])
+    → (r : Option Code) → is_some r ≡ eqb n 0 → IfSome r P → option_map asked_of r ≡ slice_get (question_asked index question) n
+asked_by index question zero P answers None e p = absurd (false≢true e)
+asked_by index question (suc n) P answers None e p = asked_past index question (suc n) (omega arith)
+asked_by index question zero P answers (Some x) e p = ap (λ l. slice_get l 0) (sym (answers x p))
+asked_by index question (suc n) P answers (Some x) e p = let none = eqb-true (suc n) 0 (sym e) in absurd (omega (arith, none))
 
 -- ------------------------------------------------------------------ the expression at a byte
 

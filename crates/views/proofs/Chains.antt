@@ -3,10 +3,11 @@ use mathlib.Core.Path.{◌≡◌, sym, ap, ◌∙◌}
 use mathlib.Core.Bool.{Bool, true, false, not}
 use Prim.Native.Nat.{ℕ}
 use mathlib.Core.List.{List}
-use Rattle.std.specs.Prelude.{Option, None, Some}
+use Rattle.std.specs.Prelude.{Option, None, Some, MatchOption}
 use native.Mathlib.Omega.{arith}
 use Rattle.std.specs.Prelude.{if◌then◌else◌}
-use Rattle.model.specs.Records.{Name, TypeExpr, BinaryOp, Definition, ExpressionInfo, Module, Index}
+use Rattle.model.specs.Common.{let_some}
+use Rattle.model.specs.Records.{Name, BinaryOp, Definition, ExpressionInfo, Module, Index}
 use Rattle.model.specs.Lookups.{
   module_at,
   type_expr_at,
@@ -32,8 +33,9 @@ use Rattle.resolution.specs.Views.{
   right_first,
   callee_is_builtin,
 }
-use Rattle.records.specs.Meaning.{type_expr_of, found_type_expr_of, definition_of, found_definition_of, info_of, found_expression_of}
+use Rattle.records.specs.Meaning.{type_expr_of, found_type_expr_of, expression_of, definition_of, found_definition_of, info_of, found_expression_of}
 use Rattle.records.specs.Meaning.{scope_link_of, type_link_of, definition_link_of, expression_link_of}
+use Rattle.records.proofs.Lists.{some_and}
 use Rattle.records.specs.declared.FileScopeId.{FileScopeId}
 use Rattle.records.specs.declared.DefinitionIndex.{DefinitionIndex}
 use Rattle.records.specs.declared.ExpressionId.{ExpressionId}
@@ -43,13 +45,6 @@ use Rattle.records.specs.declared.ExpressionInfo.{ExpressionInfo as DeclaredInfo
 use Rattle.views.specs.Reads.{argument_definition, field_type_expr, imported_definition, identifier_definition}
 
 -- ------------------------------------------------------------------ what was found
-
-module _ (file words : List ℕ) (r : Option DeclaredTypeExpr) (o : Option TypeExpr) (is : found_type_expr_of file words r ≡ o) where
-  pub no_type_expr : r ≡ None → o ≡ None
-  no_type_expr h = sym is ∙ ap (found_type_expr_of file words) h
-
-  pub a_type_expr : (x : DeclaredTypeExpr) → r ≡ Some x → o ≡ Some (type_expr_of file words x)
-  a_type_expr x h = sym is ∙ ap (found_type_expr_of file words) h
 
 module _ (file words : List ℕ) (r : Option DeclaredDefinition) (o : Option Definition) (is : found_definition_of file words r ≡ o) where
   pub no_definition : r ≡ None → o ≡ None
@@ -95,24 +90,21 @@ module _ (r : Option ℕ) (o : Option ℕ) (is : type_link_of r ≡ o) where
 
 -- ------------------------------------------------------------------ types and operands
 
-module _ (the_module : Module) (t : ℕ) where
-  pub array_absent : type_expr_at the_module t ≡ None → false ≡ names_array_expr the_module t
+-- what `is_some_and` says of a T of the module, and of an expression
+module _ (file words : List ℕ) (the_module : Module) where
+  pub array_by : (t : ℕ) (r : Option DeclaredTypeExpr) → found_type_expr_of file words r ≡ type_expr_at the_module t → (P : DeclaredTypeExpr → Type 0) (b : Bool)
+      → MatchOption r (b ≡ false) P → ((x : DeclaredTypeExpr) → P x → b ≡ is_array_expr (type_expr_of file words x)) → b ≡ names_array_expr the_module t
   unfolding names_array_expr
-  array_absent h = rw h
+  array_by t r is P b answer tests =
+      some_and (type_expr_of file words) is_array_expr P r b answer tests ∙ ap (λ o. let_some o false is_array_expr) is
 
-  pub array_found : (x : TypeExpr) (b : Bool) → type_expr_at the_module t ≡ Some x → b ≡ is_array_expr x → b ≡ names_array_expr the_module t
-  unfolding names_array_expr
-  array_found x b h e = rw h e
-
-module _ (the_module : Module) (e : ℕ) where
-  pub operand_absent : expression_at the_module e ≡ None → false ≡ operand_is_unsuffixed_literal the_module e
-  unfolding operand_is_unsuffixed_literal
-  operand_absent h = rw h
-
-  pub operand_found : (x : ExpressionInfo) (b : Bool) → expression_at the_module e ≡ Some x → b ≡ is_unsuffixed_literal x.node
+  pub operand_by : (e : ℕ) (r : Option DeclaredInfo) → found_expression_of file words r ≡ expression_at the_module e → (P : DeclaredInfo → Type 0) (b : Bool)
+      → MatchOption r (b ≡ false) P → ((x : DeclaredInfo) → P x → b ≡ is_unsuffixed_literal (expression_of file words x.node))
       → b ≡ operand_is_unsuffixed_literal the_module e
   unfolding operand_is_unsuffixed_literal
-  operand_found x b h same = rw h same
+  operand_by e r is P b answer tests =
+      some_and (info_of file words) (λ operand. is_unsuffixed_literal operand.node) P r b answer tests
+      ∙ ap (λ o. let_some o false (λ operand. is_unsuffixed_literal operand.node)) is
 
 module _ (the_module : Module) (op : BinaryOp) (left right : ℕ) (b : Bool) (is : b ≡ is_commutative op) where
   pub order_kept : b ≡ false → false ≡ right_first the_module op left right

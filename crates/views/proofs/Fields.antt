@@ -1,41 +1,42 @@
--- The search for a field of a name: the items that are left decide the whole. Assumes nothing.
-use mathlib.Core.Path.{◌≡◌, sym, ap, ◌∙◌}
+-- The T of the first field of a name, from the place that the search finds. Assumes nothing.
+use mathlib.Core.Path.{◌≡◌, refl, ap, ◌∙◌}
 use mathlib.Core.Bool.{Bool, true, false}
-use Prim.Native.Nat.{ℕ, ◌+◌, ◌-◌, ◌≤◌, ◌<◌}
+use Prim.Native.Nat.{ℕ, zero, suc, ◌+◌}
+use native.Mathlib.Nat.{add-zero}
+use native.Mathlib.Omega.{arith}
 use mathlib.Core.List.{List}
-use Rattle.std.specs.Prelude.{Option, None, Some}
-use Rattle.std.specs.Prelude.{if◌then◌else◌}
-use Rattle.model.specs.Common.{eq_numbers}
-use Rattle.model.specs.Records.{Name}
+use Rattle.std.specs.Prelude.{Option, None, Some, option_map, if◌then◌else◌}
+use Rattle.model.specs.Common.{next, first, eq_numbers}
+use Rattle.model.specs.Records.{Name, NameWithType}
 use Rattle.resolution.specs.Types.{field_type}
-use Rattle.records.specs.Layout.{each, name_by, item_value, item_name, name_with_type_row, names_with_types_at}
-use Rattle.records.proofs.Lists.{each_unroll, each_ended, each_begun}
+use Rattle.records.specs.Layout.{each, item_value, name_with_type_row, names_with_types_at}
+use Rattle.records.proofs.Searches.{each_from}
 
--- the type of the first field of the name, from the i-th on
-unfoldable pub type_from : List ℕ → List ℕ → Name → ℕ → ℕ → ℕ → Option ℕ
-type_from file words name first count i = field_type (each (name_with_type_row file words) (first + i) (count - i)) name
+abbrev pub called : Name → NameWithType → Bool
+called name field = eq_numbers field.name name
 
-module _ (file words : List ℕ) (name : Name) (first count : ℕ) where
-  pub type_begin : field_type (names_with_types_at file words first count) name ≡ type_from file words name first count 0
-  unfolding type_from names_with_types_at
-  type_begin = ap (λ l. field_type l name) (each_begun (name_with_type_row file words) first count)
+module _ (file words : List ℕ) (name : Name) where
+  -- the T of the field at a place behind the first
+  abbrev pub type_behind : ℕ → Option ℕ → Option ℕ
+  type_behind from = option_map (λ i. item_value words (from + i))
 
-  module _ (i : ℕ) (below : i < count) (n : Name) (b : Bool) (called : n ≡ name_by file (item_name words (first + i))) (is : b ≡ eq_numbers n name) where
-    type_turn : type_from file words name first count i ≡ (if b then Some (item_value words (first + i)) else type_from file words name first count (i + 1))
-    unfolding type_from field_type
-    type_turn =
-        ap (λ l. field_type l name) (each_unroll (name_with_type_row file words) first count i below)
-        ∙ ap
-        (λ b. if b then Some (item_value words (first + i)) else field_type (each (name_with_type_row file words) (first + (i + 1)) (count - (i + 1))) name)
-        (sym (is ∙ ap (λ n. eq_numbers n name) called))
+  first_called : (from count : ℕ) → type_behind from (first (called name) (each (name_with_type_row file words) from count)) ≡ field_type (each (name_with_type_row file words) from count) name
+  unfolding each first field_type
+  first_called from zero = refl
+  first_called from (suc count) =
+      by from (called name (name_with_type_row file words from)) (first (called name) (each (name_with_type_row file words) (suc from) count))
+      ∙ ap (λ o. if called name (name_with_type_row file words from) then Some (item_value words from) else o) (first_called (suc from) count)
+    where
+      over : (a b : ℕ) → a + suc b ≡ suc a + b
+      over a b = omega arith
 
-    pub type_hit : (t : ℕ) → b ≡ true → t ≡ item_value words (first + i) → type_from file words name first count i ≡ Some t
-    type_hit t h e =
-        type_turn ∙ ap (λ b. if b then Some (item_value words (first + i)) else type_from file words name first count (i + 1)) h ∙ ap Some (sym e)
+      by : (from : ℕ) (b : Bool) (o : Option ℕ) → type_behind from (if b then Some zero else next o) ≡ (if b then Some (item_value words from) else type_behind (suc from) o)
+      by from true o = ap (λ n. Some (item_value words n)) (add-zero from)
+      by from false None = refl
+      by from false (Some i) = ap (λ n. Some (item_value words n)) (over from i)
 
-    pub type_miss : b ≡ false → type_from file words name first count i ≡ type_from file words name first count (i + 1)
-    type_miss h = type_turn ∙ ap (λ b. if b then Some (item_value words (first + i)) else type_from file words name first count (i + 1)) h
-
-  pub type_end : (i : ℕ) → count ≤ i → type_from file words name first count i ≡ None
-  unfolding type_from field_type
-  type_end i past = ap (λ l. field_type l name) (each_ended (name_with_type_row file words) first count i past)
+  pub type_found : (from count : ℕ) (r : Option ℕ) → r ≡ first (called name) (each (λ i. name_with_type_row file words (from + i)) 0 count)
+      → type_behind from r ≡ field_type (names_with_types_at file words from count) name
+  unfolding names_with_types_at
+  type_found from count r e =
+      ap (type_behind from) (e ∙ ap (first (called name)) (each_from (name_with_type_row file words) from count)) ∙ first_called from count

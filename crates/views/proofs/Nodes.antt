@@ -13,6 +13,7 @@ use Rattle.resolution.specs.Views.{is_array_expr, is_unsuffixed_literal, as_iden
 use Rattle.resolution.specs.Types.{field_type}
 use Rattle.records.specs.Meaning.{name_of, names_with_types_of, type_expr_of, definition_kind_of, binary_op_of, expression_of}
 use Rattle.records.specs.declared.Name.{Name as DeclaredName}
+use Rattle.records.specs.declared.Span.{Span}
 use Rattle.records.specs.declared.Items.{Items}
 use Rattle.records.specs.declared.TypeExpr.{TypeExpr}
 use Rattle.records.specs.declared.DefinitionKind.{DefinitionKind}
@@ -94,7 +95,7 @@ other_than_literal file words (Expression.Binary op a b) h = refl
 other_than_literal file words (Expression.FunctionCall e l) h = refl
 other_than_literal file words (Expression.MemberAccess e n) h = refl
 other_than_literal file words (Expression.IndexAccess a b) h = refl
-other_than_literal file words (Expression.StructLiteral n a b) h = refl
+other_than_literal file words (Expression.StructLiteral n span) h = refl
 other_than_literal file words (Expression.Tuple l) h = refl
 other_than_literal file words (Expression.TupleIndex e i) h = refl
 other_than_literal file words (Expression.ArrayLiteral l) h = refl
@@ -113,7 +114,7 @@ other_than_identifier file words (Expression.Binary op a b) h = refl
 other_than_identifier file words (Expression.FunctionCall e l) h = refl
 other_than_identifier file words (Expression.MemberAccess e n) h = refl
 other_than_identifier file words (Expression.IndexAccess a b) h = refl
-other_than_identifier file words (Expression.StructLiteral n a b) h = refl
+other_than_identifier file words (Expression.StructLiteral n span) h = refl
 other_than_identifier file words (Expression.Tuple l) h = refl
 other_than_identifier file words (Expression.TupleIndex e i) h = refl
 other_than_identifier file words (Expression.ArrayLiteral l) h = refl
@@ -132,7 +133,7 @@ other_than_struct_literal file words (Expression.Binary op a b) h = refl
 other_than_struct_literal file words (Expression.FunctionCall e l) h = refl
 other_than_struct_literal file words (Expression.MemberAccess e n) h = refl
 other_than_struct_literal file words (Expression.IndexAccess a b) h = refl
-other_than_struct_literal file words (Expression.StructLiteral n a b) h = absurd (miss (0 ∷ 1 ∷ 2 ∷ 3 ∷ 4 ∷ 5 ∷ 6 ∷ 7 ∷ 9 ∷ 10 ∷ 11 ∷ 12 ∷ 13 ∷ 14 ∷ 15 ∷ []) 8 tt (opened h))
+other_than_struct_literal file words (Expression.StructLiteral n span) h = absurd (miss (0 ∷ 1 ∷ 2 ∷ 3 ∷ 4 ∷ 5 ∷ 6 ∷ 7 ∷ 9 ∷ 10 ∷ 11 ∷ 12 ∷ 13 ∷ 14 ∷ 15 ∷ []) 8 tt (opened h))
 other_than_struct_literal file words (Expression.Tuple l) h = refl
 other_than_struct_literal file words (Expression.TupleIndex e i) h = refl
 other_than_struct_literal file words (Expression.ArrayLiteral l) h = refl
@@ -155,10 +156,10 @@ module _ (file words : List ℕ) (node : Expression) where
   unfolding as_identifier
   an_identifier n h = rw h
 
-  pub a_struct_literal : (n : DeclaredName) (start end : ℕ) → node ≡ Expression.StructLiteral n start end
-      → as_struct_literal (expression_of file words node) ≡ Some (record { name = name_of file n; start = start; end = end })
+  pub a_struct_literal : (n : DeclaredName) (span : Span) → node ≡ Expression.StructLiteral n span
+      → as_struct_literal (expression_of file words node) ≡ Some (record { name = name_of file n; start = span.start; end = span.end })
   unfolding as_struct_literal
-  a_struct_literal n start end h = rw h
+  a_struct_literal n span h = rw h
 
 -- definitions
 pub a_struct : (file words : List ℕ) (name : Name) (kind : DefinitionKind) (fields : Items) (o : Option ℕ) → kind ≡ DefinitionKind.Struct fields

@@ -2,7 +2,7 @@
 // every function is total. A module is given by its number, a name as a part of the file.
 #![tactic(auto)]
 
-ghost use Rattle.std.specs.Prelude.{◌≡◌, ℕ, List};
+ghost use Rattle.std.specs.Prelude.{◌≡◌, ℕ, List, [], ◌∷◌};
 ghost use Rattle.std.specs.Prelude.{slice_get};
 ghost use Rattle.model.specs.Records as model;
 ghost use Rattle.resolution.specs.Asked.{question_asked};
@@ -12,14 +12,14 @@ ghost use Rattle.resolution.specs.Views.{is_array_expr, operand_is_unsuffixed_li
 ghost use Rattle.records.specs.Layout.{module_row};
 ghost use Rattle.records.specs.Meaning.{name_of, names_with_types_of, type_link_of, type_expr_of};
 ghost use Rattle.records.specs.Meaning.{definition_kind_of, binary_op_of, question_of};
-ghost use Rattle.views.specs.Asking.{found_asked_of};
+ghost use Rattle.views.specs.Asking.{asked_of, found_asked_of};
 ghost use Rattle.views.specs.Promises.{IsUnsuffixedLiteral, NamesArrayExpr, RightFirst, CalleeIsBuiltin};
 ghost use Rattle.views.specs.Promises.{ArgumentDefinition, FieldTypeExpr, ImportedDefinition, IdentifierDefinition};
 ghost use Rattle.views.specs.Promises.{PositionExpression};
 
 use records::{
     BinaryOp, DefinitionIndex, DefinitionKind, Expression, ExpressionId, FileScopeId, Index, Items,
-    Name, Question, TypeExpr,
+    Name, Question, Span, TypeExpr,
 };
 
 // What an answer line is about, which isn't what a question of the file is (`Question`): a question asks a list of these. Module, expression, context; module, definition; module, T, scope; module, position.
@@ -33,19 +33,24 @@ pub enum Asked {
 
 // ------------------------------------------------------------------ what a question asks
 
+impl From<Question> for Asked {
+    ghost from_gives = { λ question asked. (index : model.Index) → question_asked index (question_of question) ≡ asked_of asked ∷ [] };
+
+    fn from(question: Question) -> Asked {
+        match question {
+            Question::Expr(m, e, context) => Asked::Expr(m, e, context),
+            Question::Def(m, d) => Asked::Def(m, d),
+            Question::Type(m, t, s) => Asked::Type(m, t, s),
+            Question::At(m, position) => Asked::At(m, position),
+        }
+    }
+}
+
 // What a question asks at a number: each asks one thing, and has one line.
 pub fn asked_at(question: Question, line: u32) -> Option<Asked>
     ensures { (index : model.Index) → found_asked_of result ≡ slice_get (question_asked index (question_of question)) line }
 {
-    if line > 0 {
-        return None;
-    }
-    match question {
-        Question::Expr(m, e, context) => Some(Asked::Expr(m, e, context)),
-        Question::Def(m, d) => Some(Asked::Def(m, d)),
-        Question::Type(m, t, s) => Some(Asked::Type(m, t, s)),
-        Question::At(m, position) => Some(Asked::At(m, position)),
-    }
+    (line == 0).then(|| Asked::from(question))
 }
 
 // The expression at a byte of a module, by its number; none too where there is no such module.
@@ -70,10 +75,7 @@ fn is_array_expr(t: TypeExpr) -> bool
 pub fn names_array_expr(words: &[u32], m: u32, t: u32) -> bool
     ensures { NamesArrayExpr words.now m t result }
 {
-    let Some(type_expr) = records::type_expr_at(words, m, t) else {
-        return false;
-    };
-    is_array_expr(type_expr)
+    records::type_expr_at(words, m, t).is_some_and(|type_expr| is_array_expr(type_expr))
 }
 
 // `Expression::Literal(_, None)`.
@@ -100,11 +102,7 @@ fn is_commutative(op: BinaryOp) -> bool
 fn operand_is_unsuffixed_literal(words: &[u32], m: u32, e: ExpressionId) -> bool
     ensures { (file : List ℕ) → result ≡ operand_is_unsuffixed_literal (module_row file words.now m) e.0 }
 {
-    let Some(operand) = records::expression_at(words, m, e) else {
-        return false;
-    };
-    let node = operand.node;
-    is_unsuffixed_literal(node)
+    records::expression_at(words, m, e).is_some_and(|operand| is_unsuffixed_literal(operand.node))
 }
 
 // Whether the right operand is typed first: the operator commutes, and only the left operand is an unsuffixed literal.
@@ -117,13 +115,9 @@ pub fn right_first(
 ) -> bool
     ensures { RightFirst words.now m op left right result }
 {
-    if !is_commutative(op) {
-        return false;
-    }
-    if !operand_is_unsuffixed_literal(words, m, left) {
-        return false;
-    }
-    !operand_is_unsuffixed_literal(words, m, right)
+    is_commutative(op)
+        && operand_is_unsuffixed_literal(words, m, left)
+        && !operand_is_unsuffixed_literal(words, m, right)
 }
 
 // ------------------------------------------------------------------ calls
@@ -138,8 +132,7 @@ pub fn callee_is_builtin(index: &Index, m: u32, callee: Option<ExpressionId>) ->
     let Some(callee_info) = records::expression_at(index.words, m, callee_id) else {
         return false;
     };
-    let node = callee_info.node;
-    let Expression::Identifier(name) = node else {
+    let Expression::Identifier(name) = callee_info.node else {
         return false;
     };
     semantic_index::builtins::is_builtin_function_name(index.file, name)
@@ -150,8 +143,7 @@ pub fn argument_definition(words: &[u32], m: u32, callee: ExpressionId) -> Optio
     ensures { ArgumentDefinition words.now m callee result }
 {
     let callee_info = records::expression_at(words, m, callee)?;
-    let node = callee_info.node;
-    let Expression::Identifier(_) = node else {
+    let Expression::Identifier(_) = callee_info.node else {
         return None;
     };
     semantic_index::definition_for_identifier_expr(words, m, callee)
@@ -165,18 +157,14 @@ fn field_type(index: &Index, fields: Items, name: Name) -> Option<u32>
         ≡ field_type (names_with_types_of index.now.file.now index.now.words.now fields)
         (name_of index.now.file.now name) }
 {
-    let first = fields.first;
-    let count = fields.count;
-    for i in 0..count {
-        if semantic_index::names::same_name(
+    let i = (0..fields.count).find(|i| {
+        semantic_index::names::same_name(
             index.file,
-            records::item_name(index.words, first, i),
+            records::item_name(index.words, fields.first, *i),
             name,
-        ) {
-            return Some(records::item_value(index.words, first, i));
-        }
-    }
-    None
+        )
+    })?;
+    Some(records::item_value(index.words, fields.first, i))
 }
 
 // The t of a struct definition's field.
@@ -191,36 +179,47 @@ fn struct_field(index: &Index, kind: DefinitionKind, name: Name) -> Option<u32>
     }
 }
 
+// A T of a module, and the scope that it is resolved in.
+#[derive(Clone, Copy)]
+pub struct ScopedType {
+    pub type_expr: u32,
+    pub scope: FileScopeId,
+}
+
 // The T of a struct literal's field, in the literal's scope.
 pub fn field_type_expr(
     index: &Index,
     m: u32,
     parent: ExpressionId,
     field: Name,
-) -> Option<(u32, FileScopeId)>
+) -> Option<ScopedType>
     ensures { FieldTypeExpr index.now.file.now index.now.words.now m parent field result }
 {
     let parent_info = records::expression_at(index.words, m, parent)?;
     let scope = parent_info.scope;
-    let node = parent_info.node;
-    let Expression::StructLiteral(name, start, end) = node else {
+    let Expression::StructLiteral(name, span) = parent_info.node else {
         return None;
     };
-    let d = semantic_index::resolve_name_at_position(index, m, name, scope, start, end)?;
+    let d = semantic_index::resolve_name_at_position(index, m, name, scope, span)?;
     let definition = records::definition_at(index.words, m, d)?;
-    let kind = definition.kind;
-    let t = struct_field(index, kind, field)?;
-    Some((t, scope))
+    let t = struct_field(index, definition.kind, field)?;
+    Some(ScopedType {
+        type_expr: t,
+        scope,
+    })
 }
 
 // ------------------------------------------------------------------ definitions behind a name
 
+// A definition of another module: the module's number, and the definition's there.
+#[derive(Clone, Copy)]
+pub struct Imported {
+    pub source: u32,
+    pub definition: DefinitionIndex,
+}
+
 // The item of a `use`: it stands in the other module's root scope.
-pub fn imported_definition(
-    index: &Index,
-    imported_module: Name,
-    item: Name,
-) -> Option<(u32, DefinitionIndex)>
+pub fn imported_definition(index: &Index, imported_module: Name, item: Name) -> Option<Imported>
     ensures { ImportedDefinition index.now.file.now index.now.words.now imported_module item result }
 {
     let imported = semantic_index::module_by_name(index, imported_module)?;
@@ -229,23 +228,26 @@ pub fn imported_definition(
     }
     let imported_root = semantic_index::root_scope(index.words, imported)?;
     let d = semantic_index::latest_definition_index_by_name(index, imported, imported_root, item)?;
-    Some((imported, d))
+    Some(Imported {
+        source: imported,
+        definition: d,
+    })
 }
 
 // The definition that an identifier records; else the name at its position.
+// Tried: `or_else`. The proof learns nothing of what its closure gives, so it would have to say the promise of the search again.
 pub fn identifier_definition(
     index: &Index,
     m: u32,
     definition: Option<DefinitionIndex>,
     scope: FileScopeId,
-    start: u32,
-    end: u32,
+    span: Span,
     name: Name,
 ) -> Option<DefinitionIndex>
-    ensures { IdentifierDefinition index.now.file.now index.now.words.now m definition scope start end name result }
+    ensures { IdentifierDefinition index.now.file.now index.now.words.now m definition scope span name result }
 {
     match definition {
         Some(d) => Some(d),
-        None => { semantic_index::resolve_name_at_position(index, m, name, scope, start, end) }
+        None => semantic_index::resolve_name_at_position(index, m, name, scope, span),
     }
 }

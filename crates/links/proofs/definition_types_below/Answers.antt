@@ -14,13 +14,13 @@ use Rattle.links.proofs.definition_types_below.Goals as goal
 abbrev test : ℕ → List ℕ → List ℕ → DefinitionKind → Bool
 test n file words kind = all_below n (definition_types (definition_kind_of file words kind))
 
-pub returns-then-n-t : goal.returns-then-n-t
+pub returns-else-t-n : goal.returns-else-t-n
 unfolding definition_types
-returns-then-n-t c = λ file. parts_stop _ (_ ∷ []) _ _ (below_one _ _) (le-ltb _ _ c.if-n-t.true) ∙ ap (test _ file _) (sym c.in-Function.is)
+returns-else-t-n c = λ file. parts_stop _ (_ ∷ []) _ _ (below_one _ _) (le-ltb _ _ c.if-t-n.false) ∙ ap (test _ file _) (sym c.in-Function.is)
 
-pub returns-else-n-t : goal.returns-else-n-t
+pub returns-then-t-n : goal.returns-then-t-n
 unfolding definition_types
-returns-else-n-t c = λ file. parts_go _ (_ ∷ []) _ _ (below_one _ _) _ (lt-ltb _ _ c.if-n-t.false) (c.numbers_below.ensures ∙ ap (all_below _) (field_types_at file _ _ _)) ∙ ap (test _ file _) (sym c.in-Function.is)
+returns-then-t-n c = λ file. parts_go _ (_ ∷ []) _ _ (below_one _ _) _ (lt-ltb _ _ c.if-t-n.true) (c.numbers_below.ensures ∙ ap (all_below _) (field_types_at file _ _ _)) ∙ ap (test _ file _) (sym c.in-Function.is)
 
 pub returns-in-Struct : goal.returns-in-Struct
 unfolding definition_types

@@ -2,8 +2,8 @@
 use Rattle.links.proofs.Below.{parts_stop, parts_go}
 use Rattle.links.proofs.expression_expressions_below.Goals as goal
 
-pub returns-then-not-origin_below : goal.returns-then-not-origin_below
-returns-then-not-origin_below c = λ file. parts_stop _ _ _ _ (c.origin_below.ensures file) c.if-not-origin_below.true
+pub returns-then-origin_below : goal.returns-then-origin_below
+returns-then-origin_below c = λ file. parts_go _ _ _ _ (c.origin_below.ensures file) _ c.if-origin_below.true (c.node_expressions_below.ensures file)
 
-pub returns : goal.returns
-returns c = λ file. parts_go _ _ _ _ (c.origin_below.ensures file) _ c.if-not-origin_below.false (c.node_expressions_below.ensures file)
+pub returns-else-origin_below : goal.returns-else-origin_below
+returns-else-origin_below c = λ file. parts_stop _ _ _ _ (c.origin_below.ensures file) c.if-origin_below.false

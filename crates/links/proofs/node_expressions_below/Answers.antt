@@ -13,9 +13,9 @@ use Rattle.links.proofs.node_expressions_below.Goals as goal
 abbrev test : ℕ → List ℕ → List ℕ → Expression → Bool
 test n file words node = all_below n (node_expressions (expression_of file words node))
 
-pub returns-then-not-link_below : goal.returns-then-not-link_below
+pub returns-else-link_below : goal.returns-else-link_below
 unfolding node_expressions
-returns-then-not-link_below c = λ file. parts_stop _ _ _ _ c.link_below-in-FunctionCall.ensures c.if-not-link_below.true ∙ ap (test _ file _) (sym c.in-FunctionCall.is)
+returns-else-link_below c = λ file. parts_stop _ _ _ _ c.link_below-in-FunctionCall.ensures c.if-link_below.false ∙ ap (test _ file _) (sym c.in-FunctionCall.is)
 
 pub returns-in-Literal : goal.returns-in-Literal
 unfolding node_expressions all_below
@@ -37,9 +37,9 @@ pub returns-in-Binary : goal.returns-in-Binary
 unfolding node_expressions
 returns-in-Binary c = λ file. c.both_below.ensures ∙ ap (test _ file _) (sym c.in-Binary.is)
 
-pub returns-else-not-link_below : goal.returns-else-not-link_below
+pub returns-then-link_below : goal.returns-then-link_below
 unfolding node_expressions
-returns-else-not-link_below c = λ file. parts_go _ _ _ _ c.link_below-in-FunctionCall.ensures _ c.if-not-link_below.false c.links_below.ensures ∙ ap (test _ file _) (sym c.in-FunctionCall.is)
+returns-then-link_below c = λ file. parts_go _ _ _ _ c.link_below-in-FunctionCall.ensures _ c.if-link_below.true c.links_below.ensures ∙ ap (test _ file _) (sym c.in-FunctionCall.is)
 
 pub returns-in-MemberAccess : goal.returns-in-MemberAccess
 unfolding node_expressions

@@ -1,8 +1,8 @@
 -- `records::binary_op` meets its contract: the table's operator at the number, and the last past it. Assumes nothing.
 use mathlib.Core.Path.{refl}
 use mathlib.Core.List.{List, [], ◌∷◌}
-use native.Mathlib.Omega.{arith}
-use Rattle.records.proofs.Options.{option_mapped, option_last}
+use Rattle.std.proofs.Common.{rules}
+use Rattle.records.proofs.Options.{option_mapped}
 use Rattle.records.specs.Layout.{binary_op_by}
 use Rattle.records.specs.Meaning.{binary_op_of}
 use Rattle.records.specs.declared.BinaryOp.{BinaryOp}
@@ -12,10 +12,6 @@ use Rattle.records.proofs.binary_op.Goals as goal
 abbrev table : List BinaryOp
 table = BinaryOp.Add ∷ BinaryOp.Sub ∷ BinaryOp.Mul ∷ BinaryOp.Div ∷ BinaryOp.Mod ∷ BinaryOp.Eq ∷ BinaryOp.Neq ∷ BinaryOp.Less ∷ BinaryOp.Greater ∷ BinaryOp.LessEqual ∷ BinaryOp.GreaterEqual ∷ BinaryOp.And ∷ BinaryOp.Or ∷ BinaryOp.BitwiseAnd ∷ BinaryOp.BitwiseOr ∷ BinaryOp.BitwiseXor ∷ []
 
-pub returns-then-i-lt16 : goal.returns-then-i-lt16
+pub returns : goal.returns
 unfolding binary_op_by
-returns-then-i-lt16 c = option_mapped binary_op_of table _ _ _ BinaryOp.Add c.if-i-lt16.true refl
-
-pub returns-else-i-lt16 : goal.returns-else-i-lt16
-unfolding binary_op_by
-returns-else-i-lt16 c = option_last _ _ _ _ (omega arith) refl
+returns c = option_mapped binary_op_of table _ _ _ BinaryOp.BitwiseXor _ (search rules) refl refl

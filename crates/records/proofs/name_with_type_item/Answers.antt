@@ -6,11 +6,11 @@ use Rattle.std.proofs.Common.{rules}
 use Rattle.records.proofs.Lists.{then_item}
 use Rattle.records.specs.Layout.{name_by, item_name, item_value, name_with_type_row, names_with_types_at}
 use Rattle.records.specs.Meaning.{name_of, named_type_of}
-use Rattle.records.specs.declared.Name.{Name}
+use Rattle.records.specs.declared.NameWithType.{NameWithType}
 use Rattle.records.proofs.name_with_type_item.Goals as goal
 
 -- a name and a T that are those of the row
-both_are : (file words : List ℕ) (i : ℕ) (item : Name × ℕ) → name_of file item.0 ≡ name_by file (item_name words i) → item.1 ≡ item_value words i
+both_are : (file words : List ℕ) (i : ℕ) (item : NameWithType) → name_of file item.name ≡ name_by file (item_name words i) → item.type_expr ≡ item_value words i
     → named_type_of file item ≡ name_with_type_row file words i
 both_are file words i item named typed = λ d. record { name = named d; type = typed d }
 

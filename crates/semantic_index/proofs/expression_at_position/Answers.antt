@@ -16,13 +16,13 @@ loop-e-preserved c =
     let inv = c.loop-e.invariant in
     ((λ file. rows_turn file _ _ _ _ _ _ (inv.0 file) (c.shortest_with-best.ensures file)), omega (arith, c.loop-e-test.true))
 
-pub returns-in_err-number : goal.returns-in_err-number
-returns-in_err-number c =
+pub returns-in_err-found : goal.returns-in_err-found
+returns-in_err-found c =
     let inv = c.loop-e.invariant in
     let rows = c.rows_of-rows.ensures in
     λ file.
     ap expression_link_of c.from_residual.ensures
-    ∙ ap (λ b. best_number (best_of b)) (sym c.in_err-number.was)
+    ∙ ap (λ b. best_number (best_of b)) (sym c.in_err-found.was)
     ∙ rows_end file _ _ _ _ _ rows.begins rows.counts _ (best_of c.loop-e.best) (inv.0 file) inv.1 c.loop-e-test.false
 
 pub returns : goal.returns
@@ -30,5 +30,5 @@ returns c =
     let inv = c.loop-e.invariant in
     let rows = c.rows_of-rows.ensures in
     λ file.
-    ap (λ b. best_number (best_of b)) (sym c.in_ok-number.was)
+    ap (λ b. best_number (best_of b)) (sym c.in_ok-found.was)
     ∙ rows_end file _ _ _ _ _ rows.begins rows.counts _ (best_of c.loop-e.best) (inv.0 file) inv.1 c.loop-e-test.false

@@ -5,5 +5,5 @@ use Rattle.semantic_index.proofs.in_order.Goals as goal
 pub returns-then-is_top_level_allowed : goal.returns-then-is_top_level_allowed
 returns-then-is_top_level_allowed c = λ file words. allowed _ _ _ (c.is_top_level_allowed.ensures file words) c.if-is_top_level_allowed.true
 
-pub returns : goal.returns
-returns c = λ file words. not_allowed _ _ _ (c.is_top_level_allowed.ensures file words) c.if-is_top_level_allowed.false
+pub returns-else-is_top_level_allowed : goal.returns-else-is_top_level_allowed
+returns-else-is_top_level_allowed c = λ file words. not_allowed _ _ _ (c.is_top_level_allowed.ensures file words) c.if-is_top_level_allowed.false

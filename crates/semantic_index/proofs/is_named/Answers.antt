@@ -2,8 +2,8 @@
 use Rattle.semantic_index.proofs.Definitions.{other_scope, same_scope}
 use Rattle.semantic_index.proofs.is_named.Goals as goal
 
-pub returns-then-scope-s : goal.returns-then-scope-s
-returns-then-scope-s c = other_scope _ _ _ _ (c.definition_scope-scope.ensures _) c.if-scope-s.true
+pub returns-then-eq : goal.returns-then-eq
+returns-then-eq c = same_scope _ _ _ _ (c.definition_scope.ensures _) _ c.eq.ensures _ _ c.if-eq.true (c.definition_name.ensures _) c.same_name.ensures
 
-pub returns : goal.returns
-returns c = same_scope _ _ _ _ (c.definition_scope-scope.ensures _) _ _ c.if-scope-s.false (c.definition_name.ensures _) c.same_name.ensures
+pub returns-else-eq : goal.returns-else-eq
+returns-else-eq c = other_scope _ _ _ _ (c.definition_scope.ensures _) _ c.eq.ensures c.if-eq.false

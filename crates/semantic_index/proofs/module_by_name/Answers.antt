@@ -1,17 +1,15 @@
--- `semantic_index::module_by_name` meets its contract: the modules that are left decide the whole. Assumes nothing.
-use mathlib.Core.Path.{sym, ◌∙◌}
-use Rattle.semantic_index.proofs.Searches.{first_hit, first_miss, first_end}
-use Rattle.semantic_index.proofs.Definitions.{module_begin, module_test}
+-- `semantic_index::module_by_name` meets its contract: what each module is asked is the definition's test. Assumes nothing.
+use native.Mathlib.Nat.{sub-zero}
+use Rattle.std.proofs.Common.{rules}
+use Rattle.std.proofs.lemmas.Iterator.{YieldsList-from_range}
+use Rattle.model.specs.Lookups.{module_named}
+use Rattle.records.specs.Layout.{module_row}
+use Rattle.records.specs.Meaning.{name_of}
+use Rattle.records.proofs.Searches.{found_first}
+use Rattle.semantic_index.proofs.Definitions.{module_found, module_test}
 use Rattle.semantic_index.proofs.module_by_name.Goals as goal
 
-pub loop-m-init : goal.loop-m-init
-loop-m-init c = module_begin _ _ _ _ (c.module_count-count.ensures _)
-
-pub returns-then-same_name : goal.returns-then-same_name
-returns-then-same_name c = sym (c.loop-m.invariant ∙ first_hit _ _ _ _ _ _ c.loop-m-test.true (module_test _ _ _ _ _ _ (c.module_name.ensures _) c.same_name.ensures) c.if-same_name.true)
-
-pub loop-m-preserved : goal.loop-m-preserved
-loop-m-preserved c = c.loop-m.invariant ∙ first_miss _ _ _ _ _ _ c.loop-m-test.true (module_test _ _ _ _ _ _ (c.module_name.ensures _) c.same_name.ensures) c.if-same_name.false
-
 pub returns : goal.returns
-returns c = sym (c.loop-m.invariant ∙ first_end _ _ _ _ _ c.loop-m-test.false)
+returns c =
+    module_found _ _ _ _ (c.module_count.ensures _) _
+    (found_first (module_named (name_of c.args.index.now.file.now c.args.name)) (module_row c.args.index.now.file.now c.args.index.now.words.now) _ _ _ _ c.find.ensures.ran (YieldsList-from_range 0 _ _ (cc) (sub-zero _)) (λ x b q k. search (rules, module_test)))

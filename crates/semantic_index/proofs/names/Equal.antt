@@ -1,45 +1,39 @@
 -- Comparing two lists of bytes, one byte after the other. Assumes nothing.
-use mathlib.Core.Path.{◌≡◌, sym, ap, ap₂, ◌∙◌}
-use mathlib.Core.Bool.{Bool, true, false, false≢true}
-use Prim.Native.Nat.{ℕ, ◌+◌, ◌-◌, ◌≤◌, ◌<◌}
+use mathlib.Core.Path.{◌≡◌, refl, sym, ap, ap₂, ◌∙◌}
+use mathlib.Core.Bool.{Bool, true, false, false≢true, ◌&&◌}
+use Prim.Native.Nat.{ℕ, zero, suc, ◌+◌}
+use native.Mathlib.Nat.{add-zero}
+use native.Mathlib.Omega.{arith}
 use mathlib.Core.List.{List}
 use lib.ListN.{length}
 use lib.Dec.{eqb}
-use borrow.Author.Tests.{eq-eqb, ne_eqb}
-use Rattle.model.specs.Common.{eq_numbers}
+use Rattle.model.specs.Common.{every, eq_numbers}
 use Rattle.model.proofs.Tests.{bool_same, eq_numbers_sound}
-use Rattle.records.specs.Layout.{word, bytes_at}
-use Rattle.records.proofs.Lists.{each_unroll, each_ended, each_begun, each_length, each_list}
+use Rattle.records.specs.Layout.{word, bytes_at, each}
+use Rattle.records.proofs.Lists.{each_length, each_list}
 
--- the bytes of two parts
-unfoldable pub same : List ℕ → ℕ → List ℕ → ℕ → ℕ → Bool
-same a i b j count = eq_numbers (bytes_at a i count) (bytes_at b j count)
+-- byte after byte, from the n-th on
+module _ (a : List ℕ) (i : ℕ) (b : List ℕ) (j : ℕ) where
+  unfoldable pub same_byte : ℕ → Bool
+  same_byte k = eqb (word a (i + k)) (word b (j + k))
 
--- what is left to compare after k turns
-unfoldable pub left : List ℕ → ℕ → List ℕ → ℕ → ℕ → ℕ → Bool
-left a i b j count k = eq_numbers (bytes_at a (i + k) (count - k)) (bytes_at b (j + k) (count - k))
+  each_byte : (n count : ℕ) → every (λ b. b) (each same_byte n count) ≡ eq_numbers (bytes_at a (i + n) count) (bytes_at b (j + n) count)
+  unfolding each eq_numbers same_byte
+  each_byte n zero = refl
+  each_byte n (suc count) =
+      ap (λ r. same_byte n && r)
+      (each_byte (suc n) count ∙ ap₂ (λ x y. eq_numbers (bytes_at a x count) (bytes_at b y count)) (over i n) (over j n))
+      ∙ by (same_byte n) (eq_numbers (bytes_at a (suc (i + n)) count) (bytes_at b (suc (j + n)) count))
+    where
+      over : (x n : ℕ) → x + suc n ≡ suc (x + n)
+      over x n = omega arith
 
-module _ (a : List ℕ) (i : ℕ) (b : List ℕ) (j count : ℕ) where
-  pub left-begin : same a i b j count ≡ left a i b j count 0
-  unfolding same left
-  left-begin = ap₂ eq_numbers (each_begun (word a) i count) (each_begun (word b) j count)
+      by : (t r : Bool) → (t && r) ≡ elim t [ true ↦ r | false ↦ false ]
+      by true r = refl
+      by false r = refl
 
-  left-unroll : (k : ℕ) (t : Bool) → k < count → eqb (word a (i + k)) (word b (j + k)) ≡ t
-      → left a i b j count k ≡ elim t [ true ↦ left a i b j count (k + 1) | false ↦ false ]
-  unfolding left eq_numbers
-  left-unroll k t h e =
-      ap₂ eq_numbers (each_unroll (word a) i count k h) (each_unroll (word b) j count k h)
-      ∙ ap (λ t. elim t [ true ↦ left a i b j count (k + 1) | false ↦ false ]) e
-
-  pub left-stop : (k x y : ℕ) → k < count → x ≡ word a (i + k) → y ≡ word b (j + k) → (x ≡ y → ⊥) → left a i b j count k ≡ false
-  left-stop k x y h ex ey ne = left-unroll k false h (ne_eqb _ _ (λ e. ne (ex ∙ e ∙ sym ey)))
-
-  pub left-go : (k x y : ℕ) → k < count → x ≡ word a (i + k) → y ≡ word b (j + k) → x ≡ y → left a i b j count k ≡ left a i b j count (k + 1)
-  left-go k x y h ex ey eq = left-unroll k true h (eq-eqb _ _ (sym ex ∙ eq ∙ ey))
-
-  pub left_end : (k : ℕ) → count ≤ k → left a i b j count k ≡ true
-  unfolding left eq_numbers
-  left_end k h = ap₂ eq_numbers (each_ended (word a) i count k h) (each_ended (word b) j count k h)
+  pub every_byte : (count : ℕ) → every (λ b. b) (each same_byte 0 count) ≡ eq_numbers (bytes_at a i count) (bytes_at b j count)
+  every_byte count = each_byte 0 count ∙ ap₂ (λ x y. eq_numbers (bytes_at a x count) (bytes_at b y count)) (add-zero i) (add-zero j)
 
 -- lists of different lengths differ
 differ : (l k : List ℕ) → (length l ≡ length k → ⊥) → false ≡ eq_numbers l k

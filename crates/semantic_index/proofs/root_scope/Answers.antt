@@ -1,17 +1,25 @@
--- `semantic_index::root_scope` meets its contract: the rows that are left decide the whole. Assumes nothing.
-use mathlib.Core.Path.{sym, ◌∙◌}
-use Rattle.semantic_index.proofs.Searches.{first_hit, first_miss, first_end}
-use Rattle.semantic_index.proofs.Definitions.{root_begin}
+-- `semantic_index::root_scope` meets its contract: what each row is asked is the definition's test. Assumes nothing.
+use Prim.Native.Nat.{◌+◌}
+use mathlib.Core.Path.{sym, ap, ◌∙◌}
+use native.Mathlib.Nat.{sub-zero}
+use Rattle.std.proofs.Common.{rules}
+use Rattle.std.proofs.lemmas.Iterator.{YieldsList-from_range}
+use Rattle.model.specs.Lookups.{without_parent}
+use Rattle.records.specs.Layout.{scope_row}
+use Rattle.records.specs.Meaning.{scope_link_of}
+use Rattle.records.proofs.Searches.{found_first}
+use Rattle.semantic_index.proofs.Definitions.{root_found}
 use Rattle.semantic_index.proofs.root_scope.Goals as goal
 
-pub loop-s-init : goal.loop-s-init
-loop-s-init c = λ file. root_begin file _ _ _ _ c.rows_of-rows.ensures.begins c.rows_of-rows.ensures.counts
-
-pub returns-then-is_root : goal.returns-then-is_root
-returns-then-is_root c = λ file. sym (c.loop-s.invariant file ∙ first_hit _ _ _ _ _ _ c.loop-s-test.true c.is_root.ensures c.if-is_root.true)
-
-pub loop-s-preserved : goal.loop-s-preserved
-loop-s-preserved c = λ file. c.loop-s.invariant file ∙ first_miss _ _ _ _ _ _ c.loop-s-test.true c.is_root.ensures c.if-is_root.false
+pub returns-in_err-s : goal.returns-in_err-s
+returns-in_err-s c = λ file.
+    ap scope_link_of c.from_residual.ensures
+    ∙ sym c.in_err-s.was
+    ∙ root_found file _ _ _ _ c.rows_of-rows.ensures.begins c.rows_of-rows.ensures.counts _
+    (found_first without_parent (λ s. scope_row c.args.words.now (c.rows_of-rows.result.first + s)) _ _ _ _ c.find.ensures.ran (YieldsList-from_range 0 _ _ (cc) (sub-zero _)) (λ x b q k. search rules))
 
 pub returns : goal.returns
-returns c = λ file. sym (c.loop-s.invariant file ∙ first_end _ _ _ _ _ c.loop-s-test.false)
+returns c = λ file.
+    sym c.in_ok-s.was
+    ∙ root_found file _ _ _ _ c.rows_of-rows.ensures.begins c.rows_of-rows.ensures.counts _
+    (found_first without_parent (λ s. scope_row c.args.words.now (c.rows_of-rows.result.first + s)) _ _ _ _ c.find.ensures.ran (YieldsList-from_range 0 _ _ (cc) (sub-zero _)) (λ x b q k. search rules))

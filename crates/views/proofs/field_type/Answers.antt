@@ -1,18 +1,33 @@
--- `views::field_type` meets its contract: the fields that are left decide the whole. Assumes nothing.
-use mathlib.Core.Path.{sym, ◌∙◌}
-use Rattle.views.proofs.Fields.{type_begin, type_hit, type_miss, type_end}
+-- `views::field_type` meets its contract: what each field is asked is whether it has the name. Assumes nothing.
+use Prim.Native.Nat.{ℕ, ◌+◌}
+use mathlib.Core.Path.{◌≡◌, sym, ap, ◌∙◌}
+use mathlib.Core.Bool.{Bool}
+use mathlib.Core.List.{List}
+use native.Mathlib.Nat.{sub-zero}
+use Rattle.std.proofs.Common.{rules}
+use Rattle.std.specs.Prelude.{Some}
+use Rattle.std.proofs.lemmas.Iterator.{YieldsList-from_range}
+use Rattle.model.specs.Common.{eq_numbers}
+use Rattle.model.specs.Records.{Name}
+use Rattle.records.specs.Layout.{name_by, item_name, name_with_type_row}
+use Rattle.records.specs.Meaning.{name_of, type_link_of}
+use Rattle.records.proofs.Searches.{found_first}
+use Rattle.views.proofs.Fields.{called, type_behind, type_found}
 use Rattle.views.proofs.field_type.Goals as goal
 
-pub loop-i-init : goal.loop-i-init
-loop-i-init c = type_begin _ _ _ _ _
+named : (file words : List ℕ) (name n : Name) (i : ℕ) (b : Bool) → n ≡ name_by file (item_name words i) → b ≡ eq_numbers n name → b ≡ called name (name_with_type_row file words i)
+named file words name n i b is e = e ∙ ap (λ n. eq_numbers n name) is
 
-pub returns-then-same_name : goal.returns-then-same_name
-returns-then-same_name c =
-    sym (c.loop-i.invariant ∙ type_hit _ _ _ _ _ _ c.loop-i-test.true _ _ (c.item_name.ensures _) c.same_name.ensures _ c.if-same_name.true c.item_value.ensures)
-
-pub loop-i-preserved : goal.loop-i-preserved
-loop-i-preserved c =
-    c.loop-i.invariant ∙ type_miss _ _ _ _ _ _ c.loop-i-test.true _ _ (c.item_name.ensures _) c.same_name.ensures c.if-same_name.false
+pub returns-in_err-i : goal.returns-in_err-i
+returns-in_err-i c =
+    ap type_link_of c.from_residual.ensures
+    ∙ ap (type_behind c.args.index.now.file.now c.args.index.now.words.now (name_of c.args.index.now.file.now c.args.name) c.args.fields.first) (sym c.in_err-i.was)
+    ∙ type_found c.args.index.now.file.now c.args.index.now.words.now (name_of c.args.index.now.file.now c.args.name) c.args.fields.first _ _
+    (found_first (called (name_of c.args.index.now.file.now c.args.name)) (λ i. name_with_type_row c.args.index.now.file.now c.args.index.now.words.now (c.args.fields.first + i)) _ _ _ _ c.find.ensures.ran (YieldsList-from_range 0 _ _ (cc) (sub-zero _)) (λ x b q k. search (rules, named)))
 
 pub returns : goal.returns
-returns c = sym (c.loop-i.invariant ∙ type_end _ _ _ _ _ _ c.loop-i-test.false)
+returns c =
+    ap Some c.item_value.ensures
+    ∙ ap (type_behind c.args.index.now.file.now c.args.index.now.words.now (name_of c.args.index.now.file.now c.args.name) c.args.fields.first) (sym c.in_ok-i.was)
+    ∙ type_found c.args.index.now.file.now c.args.index.now.words.now (name_of c.args.index.now.file.now c.args.name) c.args.fields.first _ _
+    (found_first (called (name_of c.args.index.now.file.now c.args.name)) (λ i. name_with_type_row c.args.index.now.file.now c.args.index.now.words.now (c.args.fields.first + i)) _ _ _ _ c.find.ensures.ran (YieldsList-from_range 0 _ _ (cc) (sub-zero _)) (λ x b q k. search (rules, named)))

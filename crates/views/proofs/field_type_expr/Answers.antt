@@ -15,16 +15,16 @@ returns-in_default c =
 
 pub returns-in_err-d : goal.returns-in_err-d
 returns-in_err-d c =
-    record { same = ap found_field_type_of c.from_residual-in_err-d.ensures ∙ struct_absent _ _ _ _ (an_expression _ _ _ _ (c.expression_at.ensures _) _ c.in_ok-parent_info.was) _ (a_struct_literal _ _ _ _ _ _ c.in-StructLiteral.is) (no_link _ _ c.resolve_name_at_position.ensures c.in_err-d.was) }
+    record { same = ap found_field_type_of c.from_residual-in_err-d.ensures ∙ struct_absent _ _ _ _ (an_expression _ _ _ _ (c.expression_at.ensures _) _ c.in_ok-parent_info.was) _ (a_struct_literal _ _ _ _ _ c.in-StructLiteral.is) (no_link _ _ c.resolve_name_at_position.ensures c.in_err-d.was) }
 
 pub returns-in_err-definition : goal.returns-in_err-definition
 returns-in_err-definition c =
-    record { same = ap found_field_type_of c.from_residual-in_err-definition.ensures ∙ struct_lost _ _ _ _ (an_expression _ _ _ _ (c.expression_at.ensures _) _ c.in_ok-parent_info.was) _ (a_struct_literal _ _ _ _ _ _ c.in-StructLiteral.is) _ (to_definition _ _ c.resolve_name_at_position.ensures _ c.in_ok-d.was) (no_definition _ _ _ _ (c.definition_at.ensures _) c.in_err-definition.was) }
+    record { same = ap found_field_type_of c.from_residual-in_err-definition.ensures ∙ struct_lost _ _ _ _ (an_expression _ _ _ _ (c.expression_at.ensures _) _ c.in_ok-parent_info.was) _ (a_struct_literal _ _ _ _ _ c.in-StructLiteral.is) _ (to_definition _ _ c.resolve_name_at_position.ensures _ c.in_ok-d.was) (no_definition _ _ _ _ (c.definition_at.ensures _) c.in_err-definition.was) }
 
 pub returns-in_err-t : goal.returns-in_err-t
 returns-in_err-t c =
-    record { same = ap found_field_type_of c.from_residual-in_err-t.ensures ∙ field_absent _ _ _ _ (an_expression _ _ _ _ (c.expression_at.ensures _) _ c.in_ok-parent_info.was) _ (a_struct_literal _ _ _ _ _ _ c.in-StructLiteral.is) _ (to_definition _ _ c.resolve_name_at_position.ensures _ c.in_ok-d.was) _ (a_definition _ _ _ _ (c.definition_at.ensures _) _ c.in_ok-definition.was) (no_type _ _ c.struct_field.ensures c.in_err-t.was) }
+    record { same = ap found_field_type_of c.from_residual-in_err-t.ensures ∙ field_absent _ _ _ _ (an_expression _ _ _ _ (c.expression_at.ensures _) _ c.in_ok-parent_info.was) _ (a_struct_literal _ _ _ _ _ c.in-StructLiteral.is) _ (to_definition _ _ c.resolve_name_at_position.ensures _ c.in_ok-d.was) _ (a_definition _ _ _ _ (c.definition_at.ensures _) _ c.in_ok-definition.was) (no_type _ _ c.struct_field.ensures c.in_err-t.was) }
 
 pub returns : goal.returns
 returns c =
-    record { same = field_found _ _ _ _ (an_expression _ _ _ _ (c.expression_at.ensures _) _ c.in_ok-parent_info.was) _ (a_struct_literal _ _ _ _ _ _ c.in-StructLiteral.is) _ (to_definition _ _ c.resolve_name_at_position.ensures _ c.in_ok-d.was) _ (a_definition _ _ _ _ (c.definition_at.ensures _) _ c.in_ok-definition.was) _ (to_type _ _ c.struct_field.ensures _ c.in_ok-t.was) }
+    record { same = field_found _ _ _ _ (an_expression _ _ _ _ (c.expression_at.ensures _) _ c.in_ok-parent_info.was) _ (a_struct_literal _ _ _ _ _ c.in-StructLiteral.is) _ (to_definition _ _ c.resolve_name_at_position.ensures _ c.in_ok-d.was) _ (a_definition _ _ _ _ (c.definition_at.ensures _) _ c.in_ok-definition.was) _ (to_type _ _ c.struct_field.ensures _ c.in_ok-t.was) }

@@ -1,10 +1,7 @@
 -- `views::operand_is_unsuffixed_literal` meets its contract: the record decides. Assumes nothing.
-use Rattle.views.proofs.Chains.{no_expression, an_expression, operand_absent, operand_found}
+use Rattle.std.proofs.Common.{rules}
+use Rattle.views.proofs.Chains.{operand_by}
 use Rattle.views.proofs.operand_is_unsuffixed_literal.Goals as goal
 
-pub returns-in_default : goal.returns-in_default
-returns-in_default c = λ file. operand_absent _ _ (no_expression file _ _ _ (c.expression_at.ensures file) c.in_default.is)
-
 pub returns : goal.returns
-returns c =
-    λ file. operand_found _ _ _ _ (an_expression file _ _ _ (c.expression_at.ensures file) _ c.in-Some.is) (c.is_unsuffixed_literal.ensures.same file _)
+returns c = λ file. operand_by file _ _ _ _ (c.expression_at.ensures file) _ _ c.is_some_and.ensures (λ x h. search rules)

@@ -1,19 +1,14 @@
--- `semantic_index::names::same_bytes` meets its contract: what is left to compare decides the whole. Assumes nothing.
-use mathlib.Core.Path.{sym, ◌∙◌}
-use native.Mathlib.Omega.{arith}
-use Rattle.semantic_index.proofs.names.Equal.{same, left-begin, left-stop, left-go, left_end}
+-- `semantic_index::names::same_bytes` meets its contract: byte after byte. Assumes nothing.
+use mathlib.Core.Path.{◌∙◌}
+use native.Mathlib.Nat.{sub-zero}
+use Rattle.std.proofs.Common.{rules, tests}
+use Rattle.std.proofs.lemmas.Iterator.{YieldsList-from_range}
+use Rattle.records.proofs.Searches.{all_pass}
+use Rattle.semantic_index.proofs.names.Equal.{same_byte, every_byte}
 use Rattle.semantic_index.proofs.names.same_bytes.Goals as goal
 
-pub loop-k-init : goal.loop-k-init
-loop-k-init c = (omega arith, left-begin _ _ _ _ _)
-
-pub returns-then-left-right : goal.returns-then-left-right
-unfolding same
-returns-then-left-right c = sym (c.loop-k.invariant.1 ∙ left-stop _ _ _ _ _ _ _ _ c.loop-k-test.true c.byte_at-left.ensures c.byte_at-right.ensures c.if-left-right.true)
-
-pub loop-k-preserved : goal.loop-k-preserved
-loop-k-preserved c = (omega arith, c.loop-k.invariant.1 ∙ left-go _ _ _ _ _ _ _ _ c.loop-k-test.true c.byte_at-left.ensures c.byte_at-right.ensures c.if-left-right.false)
-
 pub returns : goal.returns
-unfolding same
-returns c = sym (c.loop-k.invariant.1 ∙ left_end _ _ _ _ _ _ c.loop-k-test.false)
+unfolding same_byte
+returns c =
+    all_pass (λ b. b) (same_byte c.args.a.now c.args.i c.args.b.now c.args.j) _ _ _ _ c.all.ensures.ran (YieldsList-from_range 0 _ _ (cc) (sub-zero _)) (λ x b q k. search (rules, tests))
+    ∙ every_byte _ _ _ _ _
