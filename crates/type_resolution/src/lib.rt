@@ -318,7 +318,14 @@ fn def(
             let Some(imported) = views::imported_definition(index, home, item) else {
                 return Ok(type_table::ERROR);
             };
-            def_type(index, types, demands, depth, imported.source, imported.definition)
+            def_type(
+                index,
+                types,
+                demands,
+                depth,
+                imported.source,
+                imported.definition,
+            )
         }
         DefinitionKind::LoopVariable => Ok(type_table::FELT),
     }
@@ -493,7 +500,13 @@ fn origin(
                 return Ok(None);
             };
             let found = ast_type(
-                index, types, demands, depth, m, typed.type_expr, typed.scope,
+                index,
+                types,
+                demands,
+                depth,
+                m,
+                typed.type_expr,
+                typed.scope,
             )?;
             Ok(Some(found))
         }
