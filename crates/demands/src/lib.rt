@@ -23,7 +23,8 @@ const KIND_STRUCT: u32 = 3;
 
 const KIND_SIGNATURE: u32 = 4;
 
-// A call of one of the five tracked functions: the number of its module, its record, and its scope or context.
+// A call of one of the five tracked functions: the number of its module, its record, and its scope or context, in the order of the definition's `Demand`, whose
+// parts have no names either.
 #[derive(Clone, Copy, PartialEq, Eq)]
 pub enum OpenDemand {
     // `resolve_ast_type`: the type expression and its scope.

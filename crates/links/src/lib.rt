@@ -198,7 +198,8 @@ fn expression_expressions_below(words: &[u32], origin: Origin, node: Expression,
     origin_below(origin, n) && node_expressions_below(words, node, n)
 }
 
-// The links of expression `e` of a module, whose expressions begin at row `begin`, are below the module's counts.
+// The links of expression `e` of a module, whose expressions begin at row `begin`, are below the module's counts. (With `definition_linked` it shares the counts; the
+// links are each record's own.)
 fn expression_linked(words: &[u32], m: u32, begin: u32, e: u32) -> bool
     ensures { (file : List ℕ) → result
         ≡ expression_linked (module_row file words.now m)

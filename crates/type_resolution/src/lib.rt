@@ -1068,7 +1068,7 @@ fn said_type(resolved: Result<u32, Refusal>) -> Result<Option<u32>, Refusal>
     resolved.map(Some)
 }
 
-// What the line says: a type, or the word `none`, or a refusal. An absent module, expression or definition gives error, but for a byte: there it gives `none`. A
+// What the line says: a type, or the word `none`, or a refusal. (A match within a match, as in `answers`, and for the reason that stands there.) An absent module, expression or definition gives error, but for a byte: there it gives `none`. A
 // context is resolved first, in e's scope. It asks for a started table, the 256 places and records within their limit (`Ready`): `answers`, its only caller, has
 // just loaded the file.
 pub fn resolve_asked(

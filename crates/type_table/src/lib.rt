@@ -165,7 +165,7 @@ fn head_at(types: &[u32], t: u32) -> Head
     let element = records::word_at(types, at + 5);
     let low = records::word_at(types, at + 6);
     let high = records::word_at(types, at + 7);
-    let size = (low as u64) + 4294967296 * (high as u64);
+    let size = records::size_of(low, high);
     Head {
         kind,
         home,
@@ -449,7 +449,7 @@ pub fn element_contexts(types: &[u32], context: Option<u32>, count: u32) -> Type
         .unwrap_or(NO_TYPES)
 }
 
-// Along the path of a destructured value.
+// Along the path of a destructured value. (A step that leads nowhere ends it with error: a `for`, and no fold.)
 pub fn navigate(words: &[u32], types: &[u32], current: u32, path: Items) -> u32
     ensures { (file : List ℕ) → Reads file types.now (navigate_read current (numbers_of words.now path)) result }
 {
@@ -487,6 +487,8 @@ pub fn suffix_type(file: &[u8], suffix: Option<Name>) -> Option<u32>
 
 // The functions that intern ask that the words hold a table and that the types named are of it, so that an element's number is below its holder's. To test
 // it would be to read the whole table at each type; a table has it from `start` on, and each of these keeps it.
+// The file stands beside the words here, and not in a `Types` with them: these change the words, which a `Types` lends to be read. Each of the five makes the head of
+// its kind, and has in common with the others the call of `intern`.
 
 // Whether a type is that of a row.
 fn same_row(types: &[u32], t: u32, new: &NewType) -> bool

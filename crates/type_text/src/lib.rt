@@ -99,7 +99,7 @@ fn capped(n: usize) -> usize
     n.min(OVER)
 }
 
-// The length of a type's text added to what is used, up to 4,097: past 4,096 nothing more is looked at.
+// The length of a type's text added to what is used, up to 4,097: past 4,096 nothing more is looked at. Each arm counts the bytes of its own lead.
 #[cycle(measure_list_measure_type)]
 fn measure_type(types: &Types, t: u32, used: usize) -> usize
     requires used_bound { used ≤ 4097 }

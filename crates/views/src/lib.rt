@@ -53,7 +53,7 @@ pub fn asked_at(question: Question, line: u32) -> Option<Asked>
     (line == 0).then(|| Asked::from(question))
 }
 
-// The expression at a byte of a module, by its number; none too where there is no such module.
+// The expression at a byte of a module, by its number; none too where there is no such module. (A test before an Option: `then` would give an Option within one.)
 pub fn position_expression(words: &[u32], m: u32, position: u32) -> Option<ExpressionId>
     ensures { PositionExpression words.now m position result }
 {
@@ -122,7 +122,7 @@ pub fn right_first(
 
 // ------------------------------------------------------------------ calls
 
-// Whether the callee is the built-in `assert`; a missing callee is no identifier.
+// Whether the callee is the built-in `assert`; a missing callee is no identifier. (Each of the three reads is named and may end it, as in the Rust: no chain of closures.)
 pub fn callee_is_builtin(index: &Index, m: u32, callee: Option<ExpressionId>) -> bool
     ensures { CalleeIsBuiltin index.now.file.now index.now.words.now m callee result }
 {
@@ -167,7 +167,7 @@ fn field_type(index: &Index, fields: Items, name: Name) -> Option<u32>
     Some(records::item_value(index.words, fields.first, i))
 }
 
-// The t of a struct definition's field.
+// The t of a struct definition's field. (A match of a kind, and not of an Option.)
 fn struct_field(index: &Index, kind: DefinitionKind, name: Name) -> Option<u32>
     ensures { type_link_of result
         ≡ struct_field (definition_kind_of index.now.file.now index.now.words.now kind)

@@ -1,6 +1,6 @@
 -- `type_table::head_at` meets its contract. Assumes nothing.
 use Prim.Native.Nat.{◌+◌, ◌*◌}
-use mathlib.Core.Path.{ap₂}
+use mathlib.Core.Path.{ap₂, ◌∙◌}
 use Rattle.type_table.specs.Layout.{head_at}
 use Rattle.type_table.proofs.head_at.Goals as goal
 
@@ -11,5 +11,5 @@ returns c = λ d. record {
   home = c.word_at-home.ensures d;
   definition = c.word_at-definition.ensures d;
   element = c.word_at-element.ensures d;
-  size = ap₂ (λ x y. x + 4294967296 * y) c.word_at-low.ensures c.word_at-high.ensures d;
+  size = (c.size_of-size.ensures ∙ ap₂ (λ x y. x + 4294967296 * y) c.word_at-low.ensures c.word_at-high.ensures) d;
 }
