@@ -56,11 +56,7 @@ fn scope_linked(words: &[u32], begin: u32, s: u32) -> bool
     ensures { result ≡ scope_linked s (scope_row words.now (begin + s)) }
 {
     let scope = records::scope_row(words, begin, s);
-    let up = scope.parent;
-    match up {
-        None => s == 0,
-        Some(p) => p.0 < s,
-    }
+    scope.parent.map_or(s == 0, |p| p.0 < s)
 }
 
 // Each T that a T names is an earlier one: its number is below the own number `t`.
@@ -299,8 +295,9 @@ pub fn question_fault(words: &[u32]) -> Option<usize>
         (index_of file words.now).questions) }
 {
     let count = records::question_count(words);
-    let fault = (0..count).find(|q| !question_linked(words, *q))?;
-    Some(fault as usize)
+    (0..count)
+        .find(|q| !question_linked(words, *q))
+        .map(|q| q as usize)
 }
 
 // ------------------------------------------------------------------ the lines of a module

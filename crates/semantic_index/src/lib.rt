@@ -46,8 +46,9 @@ pub fn root_scope(words: &[u32], m: u32) -> Option<FileScopeId>
     ensures { (file : List ℕ) → scope_link_of result ≡ root_scope (module_row file words.now m) }
 {
     let rows = records::rows_of(words, m, RowKind::Scope);
-    let s = (0..rows.count).find(|s| is_root(words, rows.first, *s))?;
-    Some(FileScopeId(s))
+    (0..rows.count)
+        .find(|s| is_root(words, rows.first, *s))
+        .map(FileScopeId)
 }
 
 // ------------------------------------------------------------------ modules
@@ -90,10 +91,10 @@ pub fn latest_definition_index_by_name(
         (name_of index.now.file.now name) }
 {
     let rows = records::rows_of(index.words, m, RowKind::Definition);
-    let d = (0..rows.count)
+    (0..rows.count)
         .rev()
-        .find(|d| is_named(index, rows.first, *d, s, name))?;
-    Some(DefinitionIndex(d))
+        .find(|d| is_named(index, rows.first, *d, s, name))
+        .map(DefinitionIndex)
 }
 
 // What `find` finds in the first scope of the chain in which it finds something, going up the parents. A parent has a lower number, so s + 1 scopes are
@@ -230,10 +231,10 @@ fn latest_visible_by_name(
         (name_of index.now.file.now name) span.start span.end }
 {
     let rows = records::rows_of(index.words, m, RowKind::Definition);
-    let d = (0..rows.count).rev().find(|d| {
-        is_named_and_visible(index, m, rows.first, *d, s, name, span)
-    })?;
-    Some(DefinitionIndex(d))
+    (0..rows.count)
+        .rev()
+        .find(|d| is_named_and_visible(index, m, rows.first, *d, s, name, span))
+        .map(DefinitionIndex)
 }
 
 // In the first scope of the chain that has one.
@@ -316,8 +317,7 @@ pub fn expression_at_position(words: &[u32], m: u32, position: u32) -> Option<Ex
     for e in 0..count {
         best = shortest_with(words, first, e, position, best);
     }
-    let found = best?;
-    Some(ExpressionId(found.number))
+    best.map(|found| ExpressionId(found.number))
 }
 
 // ------------------------------------------------------------------ the function of a `return`
