@@ -1,5 +1,5 @@
 -- What the answers stand for: a text is a part of the file s, and what is left of a line begins where the field ends. Assumes nothing.
-use Rattle.std.specs.Prelude.{ℕ, Bool, ◌+◌, true, false, ◌&&◌, [], ◌∷◌, leb, length, drop}
+use Rattle.std.specs.Prelude.{ℕ, Bool, ◌+◌, ◌<◌, ◌≤◌, true, false, ◌&&◌, [], ◌∷◌, leb, length, drop}
 use Rattle.std.specs.Prelude.{Option, None, Some}
 use Rattle.model.specs.Common.{Text, let_some}
 use Rattle.records.specs.Layout.{bytes_at}
@@ -22,6 +22,11 @@ slot_is s (Some r) = Some (record { value = value_is s r.value; rest = drop r.en
 abbrev pub word_is : {A : Type 0} → Text → Option (WordRead A) → Option (lines.WordRead A)
 word_is s None = None
 word_is s (Some w) = Some (record { word = w.word; rest = drop w.end s })
+
+-- a word ends behind the tab at `at` and within the file
+abbrev pub Inside : {A : Type 0} → Text → ℕ → Option (WordRead A) → Type 0
+Inside s at None = Unit {0}
+Inside s at (Some w) = (at < w.end) × (w.end ≤ length s)
 
 -- the field that begins here, read by f
 unfoldable pub field_as : (Text → Option format.Value) → Text → Option format.Read

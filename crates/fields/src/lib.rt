@@ -1,4 +1,5 @@
-// The fields of a line: each is read once, by its kind, and gives its value and where it ends.
+// The fields of a line: each is read once, by its kind, and gives its value and where it ends. A place is a number beside the file, and not the rest of the file
+// alone: a name's word holds its place in the whole file.
 #![tactic(auto)]
 
 ghost use Rattle.std.specs.Prelude.{◌≡◌, ◌+◌, ◌≤◌, ◌&&◌, length, drop};
@@ -7,7 +8,7 @@ ghost use Rattle.format.specs.Fields.{field_of, is_dash, number_of, numbered, na
 ghost use Rattle.format.specs.declared.Kind.{Kind};
 ghost use Rattle.words.specs.Packed.{candidate_place};
 ghost use Rattle.format.specs.Lines.{word_here};
-ghost use Rattle.fields.specs.Held.{slot_is, word_is, may_be_absent, field_as, scanned, visible_run};
+ghost use Rattle.fields.specs.Held.{slot_is, word_is, Inside, may_be_absent, field_as, scanned, visible_run};
 
 use format::Kind;
 use words::{PlaceWord, end_before, field_end, find_word, is_byte};
@@ -20,7 +21,7 @@ pub enum Value {
     Text(usize, usize),
 }
 
-// A field that was read, and where it ends.
+// A field that was read, and where it ends. (`Slot`, and `WordRead` below, are named as what the definition reads.)
 #[derive(Clone, Copy)]
 pub struct Slot {
     pub value: Value,
@@ -34,7 +35,7 @@ const POSITION: u64 = 4294967295;
 
 const SIZE: u64 = 18446744073709551615;
 
-// The digits from `from` on, as a number that is at most `most`.
+// The digits from `from` on, as a number that is at most `most`. (Std's `parse` takes a str, a sign and leading zeros, and has no bound but the type's.)
 fn digits_at(file: &[u8], from: usize, most: u64) -> Option<Slot>
     ensures { slot_is file.now result ≡ scanned most 0 file.now from }
 {
@@ -77,14 +78,11 @@ fn number_at(file: &[u8], from: usize, most: u64) -> Option<Slot>
         return None;
     }
     if file[from] == b'0' {
-        let e = from + 1;
-        if is_end(file, e) {
-            return Some(Slot {
-                value: Value::Number(0),
-                end: e,
-            });
-        }
-        return None;
+        let end = from + 1;
+        return is_end(file, end).then_some(Slot {
+            value: Value::Number(0),
+            end,
+        });
     }
     digits_at(file, from, most)
 }
@@ -126,7 +124,8 @@ fn name_at(file: &[u8], from: usize) -> Option<Slot>
 
 // ---- fields by their kind
 
-// The word of a table that the field is, by its place. (A table and its map are byte strings as in the crate `words`.)
+// The word of a table that the field is, by its place. (A table and its map are byte strings as in the crate `words`. An operator is no enum here: the field's
+// value is its place, in the definition too.)
 fn operator_at(file: &[u8], from: usize, table: &[u8], map: &[u8; 32]) -> Option<Slot>
     requires { from ≤ length file.now }
     ensures { slot_is file.now result ≡ field_as (λ t. numbered (candidate_place table.now map.now t)) (drop from file.now) }
@@ -229,7 +228,8 @@ pub struct WordRead<W> {
 
 // The word behind the tab that stands at `at`, if it is one of its place.
 pub fn word_here<W: PlaceWord>(file: &[u8], at: usize) -> Option<WordRead<W>>
-    ensures { word_is file.now result ≡ word_here W.meaning (drop at file.now) }
+    ensures is { word_is file.now result ≡ word_here W.meaning (drop at file.now) }
+    ensures inside { Inside file.now at result }
 {
     if !is_byte(file, at, b'\t') {
         return None;

@@ -1,7 +1,8 @@
 // The words of the index file's format, which the definitions in specs/ and the loader share.
 #![tactic(auto)]
 
-// What a line is, by its first field. (A field that is none of its place's words, here and below, is an `Option` of the enum without a value.)
+// What a line is, by its first field. (A field that is none of its place's words, here and below, is `None`. The order of the cases is that of the words' numbers in
+// a row.)
 #[derive(Clone, Copy)]
 pub enum LineWord {
     M,
@@ -12,7 +13,8 @@ pub enum LineWord {
     Q,
 }
 
-// What a field of a line holds. `Nothing` reads no field.
+// What a field of a line holds. `Nothing` reads no field. (It is a case, as `Empty` is of `Listed`, and no `Option` without a value: the shapes of the definition are
+// over these enums.)
 #[derive(Clone, Copy)]
 pub enum Kind {
     Nothing,

@@ -56,14 +56,11 @@ fn scope_linked(words: &[u32], begin: u32, s: u32) -> bool
     ensures { result ≡ scope_linked s (scope_row words.now (begin + s)) }
 {
     let scope = records::scope_row(words, begin, s);
-    let up = scope.parent;
-    match up {
-        None => s == 0,
-        Some(p) => p.0 < s,
-    }
+    scope.parent.map_or(s == 0, |p| p.0 < s)
 }
 
-// Each T that a T names is an earlier one: its number is below the own number `t`.
+// Each T that a T names is an earlier one: its number is below the own number `t`. (Cases without a link are each named here and below, so that a new one isn't let
+// through.)
 fn type_linked(words: &[u32], begin: u32, t: u32) -> bool
     ensures { (file : List ℕ) → result
         ≡ type_linked t (type_expr_row file words.now (begin + t)) }
@@ -299,8 +296,9 @@ pub fn question_fault(words: &[u32]) -> Option<usize>
         (index_of file words.now).questions) }
 {
     let count = records::question_count(words);
-    let fault = (0..count).find(|q| !question_linked(words, *q))?;
-    Some(fault as usize)
+    (0..count)
+        .find(|q| !question_linked(words, *q))
+        .map(|q| q as usize)
 }
 
 // ------------------------------------------------------------------ the lines of a module
@@ -317,7 +315,7 @@ pub fn line_count(words: &[u32], m: u32) -> usize
 }
 
 // The place of the module's first line whose links don't lead. Line 0 is the module's own: a module has a scope.
-// The lines of its S, T, D and E follow in this order.
+// The lines of its S, T, D and E follow in this order. (A kind's count is read only where those before it lead: so no chain over a list of the four.)
 pub fn module_fault(words: &[u32], m: u32) -> Option<usize>
     ensures { (file : List ℕ) → result
         ≡ first not (module_lines (module_row file words.now m)) }

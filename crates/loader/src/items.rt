@@ -16,7 +16,7 @@ struct ItemWords {
     end: usize,
 }
 
-// How many items a line's list has, and where they end.
+// How many items a line's list has, and where they end. (Named as what the definition reads, as `FieldWords` is.)
 #[derive(Clone, Copy)]
 pub struct ItemsRead {
     pub count: usize,
@@ -83,7 +83,8 @@ fn item_words(file: &[u8], listed: Listed, at: usize) -> Option<ItemWords>
     })
 }
 
-// An item past the last is read but not written: the form of a line is judged before the limit.
+// An item past the last is read but not written: the form of a line is judged before the limit. (`rows::put` of the two words would be no shorter, and its `Put` would
+// have to be turned into `ItemPut`.)
 fn put_item(words: &mut [u32], i: usize, value: u32, name: u32)
     requires { length words.old ≡ 16384 }
     ensures { ItemPut words.old i value name words.new }

@@ -1,5 +1,8 @@
 // Loading an index file: any bytes become the record words of crates/records, or a refusal with its line. The modules are
-// private to the crate: what their functions ask for `load` has tested, or the function before them gives it.
+// private to the crate: what their functions ask for `load` has tested, or the function before them gives it. In common they ask `length file ≤ 65536`,
+// `length words ≡ 16384` and `first ≤ 2048`. No struct holds these: `fields` and `words` take the bytes, so that it would be taken apart at each call, and the record
+// words are lent and changed: behind a `&mut` of a struct nothing would be known of them after a read (type_resolution has the same). Tests of one case are `matches!`,
+// as the definition's are by cases.
 #![tactic(auto)]
 
 mod items;
@@ -24,7 +27,7 @@ const FILE_BYTES: usize = 65536;
 
 const FIRST_LINE_BYTES: usize = 8;
 
-// Sets all words to zero.
+// Sets all words to zero. (The body is `fill`; the entry and its promise are public.)
 pub fn clear(words: &mut [u32])
     ensures { words.new ≡ replicate (length words.old) 0 }
 {
@@ -32,7 +35,7 @@ pub fn clear(words: &mut [u32])
 }
 
 // The first line whose links don't lead. Rows stand in the order of their lines, and the first of them is line 2: the place at which a module's lines begin is
-// carried from module to module.
+// carried from module to module. (The last two lines are no `map`: a closure would have to ask of its caller that the sum has room.)
 fn fault_line(words: &[u32]) -> Option<usize>
     requires { module_count words.now ≤ max_modules }
     ensures { (file : List ℕ) → result ≡ link_fault (index_of file words.now) }

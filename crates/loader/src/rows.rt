@@ -26,7 +26,7 @@ pub struct Counts {
     pub items: usize,
 }
 
-// What stands behind a word: three fields' words, the list's word, and its items, where all that ends.
+// What stands behind a word: three fields' words, the list's word, and its items, whose end is where all that ends.
 #[derive(Clone, Copy)]
 pub struct Tail {
     pub a: u64,
@@ -36,7 +36,7 @@ pub struct Tail {
     pub items: ItemsRead,
 }
 
-// An expression's origin: its number, its link and its value, and where they end.
+// An expression's origin: its number in the row, its link and its value, and where they end.
 #[derive(Clone, Copy)]
 pub struct OriginWords {
     pub kind: u32,
@@ -102,8 +102,8 @@ pub fn put(words: &mut [u32], at: usize, row: &[u32])
     words[at..at + row.len()].copy_from_slice(row);
 }
 
-// Each of the six gives how many items the line's list has, and where its fields end. They are alike in their order, fields, word, what stands behind it, row, and in
-// nothing else: which fields there are, and which words of the row hold them, is document 01's table.
+// Each of the six gives how many items the line's list has, and where its fields end. They are alike in their order where they have these parts, fields, word, what stands
+// behind it, row, and in nothing else: which fields there are, and which words of the row hold them, is document 01's table.
 
 // M: the name, and where the module's rows of each kind begin.
 pub fn read_module(file: &[u8], at: usize, words: &mut [u32], n: Counts) -> Option<ItemsRead>

@@ -128,7 +128,8 @@ pub fn question_shape(word: QuestionWord) -> Shape
     }
 }
 
-// The number of a word in a row. Each kind of word has a function of its own: a trait would only repeat the bodies.
+// The number of a word in a row. Each kind of word has a function of its own: a trait would only repeat the bodies. Each says once
+// that the cast is the definition's number.
 pub fn scope_number(word: ScopeWord) -> u32
     ensures { result ≡ scope_number word }
 {

@@ -27,7 +27,8 @@ fn link_number<R: RecordNumber>(link: Option<R>) -> u64
     link.map_or(0, |n| (n.get() as u64) + 1)
 }
 
-// The module of a number, if the index has one: the words behind those of its modules may be an earlier file's.
+// The module of a number, if the index has one: the words behind those of its modules may be an earlier file's. (Four functions begin with it and end at `None`: each
+// is called from C and gives a number, so that there is no `?`, and a `map_or` would only put the rest of the body in a closure.)
 fn module_at(words: &[u32], m: u32) -> Option<u32>
     ensures { (file : List ℕ) → module_at (index_of file words.now) m ≡ module_to file words.now result }
 {

@@ -9,7 +9,7 @@ use mathlib.Core.List.{List, [], ◌∷◌}
 use lib.ListN.{length}
 use denote.Ref.{Bor}
 use denote.Param.Members.{Mut}
-use Rattle.std.specs.Prelude.{Option, None, Some, MatchOption, if◌then◌else◌, find}
+use Rattle.std.specs.Prelude.{Option, None, Some, MatchOption, IsSomeAnd, option_map, if◌then◌else◌, find}
 use Rattle.std.specs.Bool.{⊤}
 use Rattle.std.specs.Fn.{Called, CalledAt}
 use Rattle.std.specs.Iterator.{YieldsThen}
@@ -134,3 +134,10 @@ module _ {A : Type 0} (test : A → Bool) (row : ℕ → A) where
         → YieldsList steps (λ x. x) s (range_with_len 0 count)
         → ((x : ℕ) (b : Bool) (q : F) → Called g f (x, tt) b q → (q ≡ f) × (b ≡ test (row x))) → r ≡ every test (each row 0 count)
     all_pass u f r ran numbers tests = all_from_yields_List (λ i. test (row i)) u f r ran numbers tests ∙ all_from 0 count
+
+-- what was found, made the record of that number by `map`
+pub numbered_by : {R : Type 0} (number : R → ℕ) (P : ℕ → R → Type 0) (o : Option ℕ) (r : Option R) → MatchOption o (r ≡ None) (λ k. IsSomeAnd r (P k))
+    → ((k : ℕ) (x : R) → P k x → number x ≡ k) → option_map number r ≡ o
+numbered_by number P None r is made = ap (option_map number) is
+numbered_by number P (Some k) None is made = elim is [ ]
+numbered_by number P (Some k) (Some x) is made = ap Some (made k x is)

@@ -29,7 +29,8 @@ pub struct DefinitionIndex(pub u32);
 #[derive(Clone, Copy, PartialEq, Eq)]
 pub struct ExpressionId(pub u32);
 
-// A record's number within its module: one of the three, or a bare number, as a T has.
+// A record's number within its module: one of the three, or a bare number, as a T has. (The trait is no `From` and `Into`: the ghost field gives the number of
+// which the promise of `link` speaks.)
 pub trait RecordNumber: Copy {
     ghost number: { Self → ℕ };
 
@@ -149,7 +150,7 @@ pub struct Scope {
     pub kind: ScopeKind,
 }
 
-// A type expression; t is a number.
+// A type expression; t is a number. (The fields of the cases here and below have no names: they stand in the order of those of the model's constructors.)
 #[derive(Clone, Copy)]
 pub enum TypeExpr {
     Felt,
@@ -289,7 +290,7 @@ pub const QUESTIONS: usize = 11264;
 
 pub const ITEMS: usize = 12288;
 
-// Words of the header.
+// Two of the four words of the header.
 pub const MODULE_COUNT: usize = 0;
 
 pub const QUESTION_COUNT: usize = 1;
@@ -332,7 +333,7 @@ pub fn word_at(words: &[u32], i: usize) -> u32
     words.get(i).copied().unwrap_or(0)
 }
 
-// The name that a word holds.
+// The name that a word holds. (Beside `items_of`, as the two give two types, whose promises speak of two definitions.)
 pub fn name_of(v: u32) -> Name
     ensures { (file : List ℕ) → name_of file result ≡ name_by file v }
 {
@@ -374,6 +375,13 @@ pub fn suffix_of(v: u32) -> Option<Name>
 pub fn rows_of(words: &[u32], m: u32, kind: RowKind) -> Rows
     ensures { RowsOf words.now m (row_kind_number kind) result }
 {
+    rows_at(words, m, kind as u32)
+}
+
+// The rows that a module has by any word of its row, those of the four kinds among them.
+pub fn rows_at(words: &[u32], m: u32, kind: u32) -> Rows
+    ensures { RowsOf words.now m kind result }
+{
     let at = MODULES + 8 * (m as usize);
     let first = word_at(words, at + (kind as usize));
     let end = word_at(words, at + 8 + (kind as usize));
@@ -394,7 +402,8 @@ fn scope_kind(kind: u32) -> ScopeKind
         .unwrap_or(ScopeKind::Loop)
 }
 
-// The scope at row `first + i`, where the rows of its module begin at `first`.
+// The scope at row `first + i`, where the rows of its module begin at `first`. (They are two numbers, here and below: any words hold an index, so that the sum may
+// pass 2^32.)
 pub fn scope_row(words: &[u32], first: u32, i: u32) -> Scope
     ensures { scope_of result ≡ scope_row words.now (first + i) }
 {

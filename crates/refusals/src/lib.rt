@@ -34,7 +34,7 @@ pub enum FileRefusal {
     Link,
 }
 
-// A file's refusal and its line, from 1; 0 where no line is at fault.
+// A file's refusal and its line, from 1; 0 where no line is at fault, as document 01 has it (so it is no `Option`).
 #[derive(Clone, Copy, PartialEq, Eq)]
 pub struct FileRefused {
     pub refusal: FileRefusal,
@@ -42,7 +42,7 @@ pub struct FileRefused {
 }
 
 impl Refusal {
-    // The number of document 01.
+    // The number of document 01, by cases as in the definition.
     pub fn number(self) -> u32
         ensures { result ≡ refusal_number self }
     {
@@ -57,7 +57,7 @@ impl Refusal {
 }
 
 impl FileRefusal {
-    // The number of document 01.
+    // The number of document 01, by cases as in the definition.
     pub fn number(self) -> u32
         ensures { result ≡ file_refusal_number self }
     {

@@ -46,8 +46,9 @@ pub fn root_scope(words: &[u32], m: u32) -> Option<FileScopeId>
     ensures { (file : List ℕ) → scope_link_of result ≡ root_scope (module_row file words.now m) }
 {
     let rows = records::rows_of(words, m, RowKind::Scope);
-    let s = (0..rows.count).find(|s| is_root(words, rows.first, *s))?;
-    Some(FileScopeId(s))
+    (0..rows.count)
+        .find(|s| is_root(words, rows.first, *s))
+        .map(FileScopeId)
 }
 
 // ------------------------------------------------------------------ modules
@@ -90,10 +91,10 @@ pub fn latest_definition_index_by_name(
         (name_of index.now.file.now name) }
 {
     let rows = records::rows_of(index.words, m, RowKind::Definition);
-    let d = (0..rows.count)
+    (0..rows.count)
         .rev()
-        .find(|d| is_named(index, rows.first, *d, s, name))?;
-    Some(DefinitionIndex(d))
+        .find(|d| is_named(index, rows.first, *d, s, name))
+        .map(DefinitionIndex)
 }
 
 // What `find` finds in the first scope of the chain in which it finds something, going up the parents. A parent has a lower number, so s + 1 scopes are
@@ -230,13 +231,13 @@ fn latest_visible_by_name(
         (name_of index.now.file.now name) span.start span.end }
 {
     let rows = records::rows_of(index.words, m, RowKind::Definition);
-    let d = (0..rows.count).rev().find(|d| {
-        is_named_and_visible(index, m, rows.first, *d, s, name, span)
-    })?;
-    Some(DefinitionIndex(d))
+    (0..rows.count)
+        .rev()
+        .find(|d| is_named_and_visible(index, m, rows.first, *d, s, name, span))
+        .map(DefinitionIndex)
 }
 
-// In the first scope of the chain that has one.
+// The definition of the name that is visible at the span: the last one of the first scope of the chain that has one.
 pub fn resolve_name_at_position(
     index: &Index,
     m: u32,
@@ -310,14 +311,12 @@ pub fn expression_at_position(words: &[u32], m: u32, position: u32) -> Option<Ex
         ≡ expression_at_position (module_row file words.now m) position }
 {
     let rows = records::rows_of(words, m, RowKind::Expression);
-    let first = rows.first;
-    let count = rows.count;
-    let mut best = None;
-    for e in 0..count {
-        best = shortest_with(words, first, e, position, best);
-    }
-    let found = best?;
-    Some(ExpressionId(found.number))
+    (0..rows.count)
+        .fold(
+            None,
+            |best, e| shortest_with(words, rows.first, e, position, best),
+        )
+        .map(|found| ExpressionId(found.number))
 }
 
 // ------------------------------------------------------------------ the function of a `return`
@@ -338,7 +337,7 @@ fn is_function_row(words: &[u32], first: u32, d: u32) -> bool
 }
 
 // The first function definition whose scope is the given one or an ancestor. Two loops, of which the inner one goes up the ancestors and the outer one is
-// left by its label at the first fit: document 01 names this form.
+// left by its label at the first fit: the table "The form of each place" of docs/ARCHITECTURE has it.
 pub fn first_function_around(words: &[u32], m: u32, s: FileScopeId) -> Option<DefinitionIndex>
     ensures { (file : List ℕ) → definition_link_of result
         ≡ first_function_around (module_row file words.now m) s.0 }

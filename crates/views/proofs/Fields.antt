@@ -5,11 +5,12 @@ use Prim.Native.Nat.{ℕ, zero, suc, ◌+◌}
 use native.Mathlib.Nat.{add-zero}
 use native.Mathlib.Omega.{arith}
 use mathlib.Core.List.{List}
-use Rattle.std.specs.Prelude.{Option, None, Some, option_map, if◌then◌else◌}
+use Rattle.std.specs.Prelude.{Option, None, Some, MatchOption, IsSomeAnd, option_map, if◌then◌else◌}
 use Rattle.model.specs.Common.{next, first, eq_numbers}
 use Rattle.model.specs.Records.{Name, NameWithType}
 use Rattle.resolution.specs.Types.{field_type}
 use Rattle.records.specs.Layout.{each, item_value, name_with_type_row, names_with_types_at}
+use Rattle.records.specs.Meaning.{type_link_of}
 use Rattle.records.proofs.Searches.{each_from}
 
 abbrev pub called : Name → NameWithType → Bool
@@ -40,3 +41,10 @@ module _ (file words : List ℕ) (name : Name) where
   unfolding names_with_types_at
   type_found from count r e =
       ap (type_behind from) (e ∙ ap (first (called name)) (each_from (name_with_type_row file words) from count)) ∙ first_called from count
+
+-- what `map` says of the place that was found, whose closure reads the T there
+pub behind_by : (words : List ℕ) (from : ℕ) (P : ℕ → ℕ → Type 0) (o r : Option ℕ) → MatchOption o (r ≡ None) (λ i. IsSomeAnd r (P i))
+    → ((i t : ℕ) → P i t → t ≡ item_value words (from + i)) → type_link_of r ≡ option_map (λ i. item_value words (from + i)) o
+behind_by words from P None r is read = ap type_link_of is
+behind_by words from P (Some i) None is read = elim is [ ]
+behind_by words from P (Some i) (Some t) is read = ap Some (read i t is)

@@ -22,7 +22,7 @@ use records::{
     Name, Question, Span, TypeExpr,
 };
 
-// What an answer line is about, which isn't what a question of the file is (`Question`): a question asks a list of these. Module, expression, context; module, definition; module, T, scope; module, position.
+// What an answer line is about, which isn't what a question of the file is (`Question`): a question asks a list of these (of one today). Module, expression, context; module, definition; module, T, scope; module, position.
 #[derive(Clone, Copy)]
 pub enum Asked {
     Expr(u32, ExpressionId, Option<u32>),
@@ -78,7 +78,8 @@ pub fn names_array_expr(words: &[u32], m: u32, t: u32) -> bool
     records::type_expr_at(words, m, t).is_some_and(|type_expr| is_array_expr(type_expr))
 }
 
-// `Expression::Literal(_, None)`.
+// `Expression::Literal(_, None)`. (Tried: `matches!` with the pattern within the pattern. In `returns-in-Literal-None` and `returns-in_default` what the suffix is
+// stands behind a projection of the node.)
 pub fn is_unsuffixed_literal(node: Expression) -> bool
     ensures { IsUnsuffixedLiteral node result }
 {
@@ -157,14 +158,15 @@ fn field_type(index: &Index, fields: Items, name: Name) -> Option<u32>
         ≡ field_type (names_with_types_of index.now.file.now index.now.words.now fields)
         (name_of index.now.file.now name) }
 {
-    let i = (0..fields.count).find(|i| {
-        semantic_index::names::same_name(
-            index.file,
-            records::item_name(index.words, fields.first, *i),
-            name,
-        )
-    })?;
-    Some(records::item_value(index.words, fields.first, i))
+    (0..fields.count)
+        .find(|i| {
+            semantic_index::names::same_name(
+                index.file,
+                records::item_name(index.words, fields.first, *i),
+                name,
+            )
+        })
+        .map(|i| records::item_value(index.words, fields.first, i))
 }
 
 // The t of a struct definition's field. (A match of a kind, and not of an Option.)
@@ -235,7 +237,8 @@ pub fn imported_definition(index: &Index, imported_module: Name, item: Name) -> 
 }
 
 // The definition that an identifier records; else the name at its position.
-// Tried: `or_else`. The proof learns nothing of what its closure gives, so it would have to say the promise of the search again.
+// Tried: `or_else`. `returns` stays open where nothing is recorded: there the clause of `or_else` says of the closure's result nothing at all (`Unit`), so that
+// the closure would have to say the promise of the search again.
 pub fn identifier_definition(
     index: &Index,
     m: u32,

@@ -9,6 +9,8 @@ use lib.Dec.{eqb, leb}
 use lib.ListN.{length, take, drop, get_or, drop_of_length-le}
 use lib.Seq.{drop-cons}
 use borrow.Author.Tests.{eq-eqb, ne_eqb, leb-true, leb-false, eqb-true}
+use Rattle.std.specs.Prelude.{None, Some, if◌then◌else◌}
+use Rattle.std.specs.Bool.{then_some}
 use Rattle.std.specs.Str.{bytes_eq}
 use Rattle.model.specs.Common.{eq_numbers}
 use Rattle.format.specs.Fields.{stops, field_of}
@@ -104,3 +106,8 @@ part_as_numbers word table from n = ap (λ m. bytes_eq word (take m (drop from t
   where
     whole : from + n - from ≡ n
     whole = omega arith
+
+-- `then_some` in the definitions' form
+pub then_some_if : {A : Type 0} (b : Bool) (x : A) → then_some b x ≡ (if b then Some x else None)
+then_some_if true x = refl
+then_some_if false x = refl

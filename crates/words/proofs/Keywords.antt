@@ -1,27 +1,17 @@
 -- The first line, by its bytes. Assumes nothing.
-use Prim.Native.Nat.{◌<◌}
 use mathlib.Core.Path.{◌≡◌, ap}
 use mathlib.Core.Bool.{Bool, true, false}
 use Rattle.std.specs.Prelude.{None, Some}
-use native.Mathlib.Omega.{arith}
-use lib.ListN.{length, take, length-take}
+use lib.ListN.{take}
 use Rattle.format.specs.Load.{first_lines, first_line_length, version_of}
 use Rattle.std.specs.Prelude.{if◌then◌else◌}
 use Rattle.model.specs.Common.{Text, bytes, let_some, first, eq_numbers}
 use Rattle.format.specs.Words.{is_keyword, place_in, word_at}
-use Rattle.words.proofs.Tables.{other_length}
 
 -- ------------------------------------------------------------------ the first line
 
 abbrev pub begin : Text → Text
 begin file = take first_line_length file
-
-pub version_short : (file : Text) → length file < 8 → None ≡ version_of file
-unfolding version_of place_in first is_keyword
-version_short file h = rw (other_length (begin file) (bytes "index\t1\n") differs)
-  where
-    differs : length (begin file) ≡ 8 → ⊥
-    differs e = omega (arith, length-take 8 file, e)
 
 -- there is one first line
 pub version_by : (file : Text) (b : Bool) → b ≡ eq_numbers (begin file) (bytes "index\t1\n") → (if b then Some 1 else None) ≡ version_of file

@@ -17,14 +17,6 @@ use Rattle.format.specs.Words.{Keyword, is_keyword, place_in}
 use Rattle.words.specs.Packed.{word_behind, cell_word, hash_of, candidate, place_if, candidate_place}
 use Rattle.words.proofs.Bytes.{here}
 
--- texts of different lengths differ
-pub other_length : (xs ys : Text) → (length xs ≡ length ys → ⊥) → eq_numbers xs ys ≡ false
-other_length xs ys n = by (eq_numbers xs ys) refl
-  where
-    by : (b : Bool) → eq_numbers xs ys ≡ b → b ≡ false
-    by true e = absurd (n (ap length (eq_numbers_sound xs ys e)))
-    by false e = refl
-
 -- ------------------------------------------------------------------ the one word that a field can be
 
 -- no cell begins behind the table's end

@@ -1,7 +1,8 @@
 // Where a field ends, and which word of a table it is.
 //
 // A table is a fixed byte string with nine bytes for each word: the word's length, the word, and zeros. Beside it stands a map: for each hash
-// the place of the one word of the table that has it (any place, where none has). So a field is compared with one word only.
+// the place of the one word of the table that has it (any place, where none has). So a field is compared with one word only. (DECISIONS 34 has
+// why a table is packed, and no array of byte strings.)
 #![tactic(auto)]
 
 ghost use Rattle.std.specs.Prelude.{◌≡◌, ℕ, ◌+◌, List, Option, option_map, slice_get, length, drop};
@@ -22,7 +23,8 @@ ghost use Rattle.words.specs.Meanings.{line_by_words, scope_by_words, type_by_wo
 
 use format::{DefinitionWord, LineWord, NodeWord, OriginWord, QuestionWord, ScopeWord, TypeWord};
 
-// The first place from `from` on whose byte passes the test, or the file's end.
+// The first place from `from` on whose byte passes the test, or the file's end. (A `for`: the result is a place either way, so a `find` would need the end as its
+// default, and its closure a clause for the bound of `file[e]`.)
 pub fn end_before<F: Fn(u8) -> bool>(file: &[u8], from: usize, stop: F) -> usize
     requires { F.IsAlwaysCallable stop }
     ensures { EndsAt (F.post stop) file.now from result }
@@ -70,23 +72,15 @@ pub fn find_word(field: &[u8], table: &[u8], map: &[u8; 32]) -> Option<usize>
     let h = hash(field);
     let k = map[h] as usize;
     let at = k * 9;
-    if table.len() <= at {
-        return None;
-    }
-    let n = table[at] as usize;
+    let n = *table.get(at)? as usize;
     let from = at + 1;
-    if table.len() - from < n {
-        return None;
-    }
-    if field == &table[from..from + n] {
-        return Some(k);
-    }
-    None
+    let word = table.get(from..from + n)?;
+    (field == word).then_some(k)
 }
 
 // ---- the words of each place, in the order of document 01, those of change requests behind them
 
-// The words that may stand at one place of a line.
+// The words that may stand at one place of a line. The impls are the table of the instances: each has its own words, packed table and map.
 pub trait PlaceWord: Copy {
     // The table of the definition, and the word that a field is by it, if it is one.
     ghost words: { List (Keyword Self) };
@@ -328,11 +322,5 @@ impl PlaceWord for QuestionWord {
 pub fn version_of(file: &[u8]) -> Option<u32>
     ensures { result ≡ version_of file.now }
 {
-    if file.len() < 8 {
-        return None;
-    }
-    if &file[..8] == b"index\t1\n".as_slice() {
-        return Some(1);
-    }
-    None
+    file.starts_with(b"index\t1\n").then_some(1)
 }

@@ -1,20 +1,22 @@
 -- `links::scope_linked` meets its contract: the parent decides. Assumes nothing.
 use Prim.Native.Nat.{ℕ}
+use mathlib.Core.Path.{◌≡◌, ap, ◌∙◌}
 use mathlib.Core.Bool.{Bool}
-use mathlib.Core.Path.{sym, ap, ◌∙◌}
-use Rattle.std.specs.Prelude.{Option}
+use Rattle.std.proofs.Common.{rules, tests}
+use Rattle.std.specs.Prelude.{Option, None, Some, MatchOption}
+use lib.Dec.{ltb, eqb}
 use Rattle.records.specs.declared.FileScopeId.{FileScopeId}
 use Rattle.format.specs.LinkCheck.{parent_ok, scope_linked}
 use Rattle.records.specs.Meaning.{scope_link_of}
 use Rattle.links.proofs.scope_linked.Goals as goal
 
-abbrev test : ℕ → Option FileScopeId → Bool
-test s to = parent_ok s (scope_link_of to)
+parent_by : (s : ℕ) (P : FileScopeId → Type 0) (up : Option FileScopeId) (b : Bool) → MatchOption up (b ≡ eqb s 0) P → ((p : FileScopeId) → P p → b ≡ ltb p.0 s)
+    → b ≡ parent_ok s (scope_link_of up)
+parent_by s P None b is tests = is
+parent_by s P (Some p) b is tests = tests p is
 
-pub returns-in-None : goal.returns-in-None
+pub returns : goal.returns
 unfolding scope_linked
-returns-in-None c = ap (test _) (sym c.in-None.is) ∙ ap (scope_linked _) c.scope_row-scope.ensures
-
-pub returns-in-Some : goal.returns-in-Some
-unfolding scope_linked
-returns-in-Some c = ap (test _) (sym c.in-Some.is) ∙ ap (scope_linked _) c.scope_row-scope.ensures
+returns c =
+    parent_by c.args.s _ _ _ c.map_or.ensures (λ p h. search (rules, tests))
+    ∙ ap (scope_linked _) c.scope_row-scope.ensures

@@ -23,7 +23,7 @@ pub returns-in_err-kind : goal.returns-in_err-kind
 returns-in_err-kind c =
     let h = c.in_ok-head.head in
     let s = c.in_ok-spans.spans in
-    line_lost c.from_residual-in_err-kind.ensures (left_self c.args.n _) (definition_no_word c.args.file.now _ h (three_found c.args.file.now _ Kind.Number Kind.Name Kind.Position c.three_words.result c.three_words.ensures h c.in_ok-head.was) s (three_found c.args.file.now _ Kind.Position Kind.Position Kind.Position c.three_words-2.result c.three_words-2.ensures s c.in_ok-spans.was) (word_lost definition_word_of c.args.file.now _ _ c.word_here.ensures c.in_err-kind.was))
+    line_lost c.from_residual-in_err-kind.ensures (left_self c.args.n _) (definition_no_word c.args.file.now _ h (three_found c.args.file.now _ Kind.Number Kind.Name Kind.Position c.three_words.result c.three_words.ensures h c.in_ok-head.was) s (three_found c.args.file.now _ Kind.Position Kind.Position Kind.Position c.three_words-2.result c.three_words-2.ensures s c.in_ok-spans.was) (word_lost definition_word_of c.args.file.now _ _ c.word_here.ensures.is c.in_err-kind.was))
 
 pub returns-in_err-tail : goal.returns-in_err-tail
 returns-in_err-tail c =
@@ -31,7 +31,7 @@ returns-in_err-tail c =
     let h = c.in_ok-head.head in
     let s = c.in_ok-spans.spans in
     let k = c.in_ok-kind.kind in
-    line_lost c.from_residual-in_err-tail.ensures (behind_left c.args.n c.requires.0 tp.behind) (definition_no_tail c.args.file.now _ h (three_found c.args.file.now _ Kind.Number Kind.Name Kind.Position c.three_words.result c.three_words.ensures h c.in_ok-head.was) s (three_found c.args.file.now _ Kind.Position Kind.Position Kind.Position c.three_words-2.result c.three_words-2.ensures s c.in_ok-spans.was) k.word k.end (word_read definition_word_of c.args.file.now _ _ c.word_here.ensures k c.in_ok-kind.was) (tail_none c.args.file.now _ _ _ _ tp.tail c.in_err-tail.was))
+    line_lost c.from_residual-in_err-tail.ensures (behind_left c.args.n c.requires.0 tp.behind) (definition_no_tail c.args.file.now _ h (three_found c.args.file.now _ Kind.Number Kind.Name Kind.Position c.three_words.result c.three_words.ensures h c.in_ok-head.was) s (three_found c.args.file.now _ Kind.Position Kind.Position Kind.Position c.three_words-2.result c.three_words-2.ensures s c.in_ok-spans.was) k.word k.end (word_read definition_word_of c.args.file.now _ _ c.word_here.ensures.is k c.in_ok-kind.was) (tail_none c.args.file.now _ _ _ _ tp.tail c.in_err-tail.was))
 
 pub returns-then-not-path_fits : goal.returns-then-not-path_fits
 returns-then-not-path_fits c =
@@ -39,7 +39,7 @@ returns-then-not-path_fits c =
     let h = c.in_ok-head.head in
     let s = c.in_ok-spans.spans in
     let k = c.in_ok-kind.kind in
-    record { left = behind_left c.args.n c.requires.0 tp.behind; line = definition_no_path c.args.file.now _ h (three_found c.args.file.now _ Kind.Number Kind.Name Kind.Position c.three_words.result c.three_words.ensures h c.in_ok-head.was) s (three_found c.args.file.now _ Kind.Position Kind.Position Kind.Position c.three_words-2.result c.three_words-2.ensures s c.in_ok-spans.was) k.word k.end (word_read definition_word_of c.args.file.now _ _ c.word_here.ensures k c.in_ok-kind.was) c.args.n c.in_ok-tail.tail (tail_of c.args.file.now _ _ _ c.args.n.items tp.tail c.in_ok-tail.tail c.in_ok-tail.was) c.requires.0.items (ap (λ p. path_fits k.word p c.in_ok-tail.tail.items.count) (sym c.low.ensures) ∙ sym c.path_fits.ensures ∙ c.if-not-path_fits.true) }
+    record { left = behind_left c.args.n c.requires.0 tp.behind; line = definition_no_path c.args.file.now _ h (three_found c.args.file.now _ Kind.Number Kind.Name Kind.Position c.three_words.result c.three_words.ensures h c.in_ok-head.was) s (three_found c.args.file.now _ Kind.Position Kind.Position Kind.Position c.three_words-2.result c.three_words-2.ensures s c.in_ok-spans.was) k.word k.end (word_read definition_word_of c.args.file.now _ _ c.word_here.ensures.is k c.in_ok-kind.was) c.args.n c.in_ok-tail.tail (tail_of c.args.file.now _ _ _ c.args.n.items tp.tail c.in_ok-tail.tail c.in_ok-tail.was) c.requires.0.items (ap (λ p. path_fits k.word p c.in_ok-tail.tail.items.count) (sym c.low.ensures) ∙ sym c.path_fits.ensures ∙ c.if-not-path_fits.true) }
 
 pub returns : goal.returns
 returns c =
@@ -47,4 +47,4 @@ returns c =
     let h = c.in_ok-head.head in
     let s = c.in_ok-spans.spans in
     let k = c.in_ok-kind.kind in
-    definition_put_as c.args.file.now _ h (three_found c.args.file.now _ Kind.Number Kind.Name Kind.Position c.three_words.result c.three_words.ensures h c.in_ok-head.was) s (three_found c.args.file.now _ Kind.Position Kind.Position Kind.Position c.three_words-2.result c.three_words-2.ensures s c.in_ok-spans.was) k.word k.end (word_read definition_word_of c.args.file.now _ _ c.word_here.ensures k c.in_ok-kind.was) c.args.n c.in_ok-tail.tail (tail_of c.args.file.now _ _ _ c.args.n.items tp.tail c.in_ok-tail.tail c.in_ok-tail.was) c.requires.0.items c.requires.0 c.requires.1 (ap (λ p. path_fits k.word p c.in_ok-tail.tail.items.count) (sym c.low.ensures) ∙ sym c.path_fits.ensures ∙ c.if-not-path_fits.false) tp.behind (put_same (λ i. c.definition_number.ensures i ∷ c.low-2.ensures i ∷ c.low-3.ensures i ∷ c.low-4.ensures i ∷ c.low-5.ensures i ∷ c.low-6.ensures i ∷ c.low-7.ensures i ∷ c.low-8.ensures i ∷ c.low-9.ensures i ∷ c.low-10.ensures i ∷ c.in_ok-tail.tail.list ∷ 0 ∷ []) c.put.ensures)
+    definition_put_as c.args.file.now _ h (three_found c.args.file.now _ Kind.Number Kind.Name Kind.Position c.three_words.result c.three_words.ensures h c.in_ok-head.was) s (three_found c.args.file.now _ Kind.Position Kind.Position Kind.Position c.three_words-2.result c.three_words-2.ensures s c.in_ok-spans.was) k.word k.end (word_read definition_word_of c.args.file.now _ _ c.word_here.ensures.is k c.in_ok-kind.was) c.args.n c.in_ok-tail.tail (tail_of c.args.file.now _ _ _ c.args.n.items tp.tail c.in_ok-tail.tail c.in_ok-tail.was) c.requires.0.items c.requires.0 c.requires.1 (ap (λ p. path_fits k.word p c.in_ok-tail.tail.items.count) (sym c.low.ensures) ∙ sym c.path_fits.ensures ∙ c.if-not-path_fits.false) tp.behind (put_same (λ i. c.definition_number.ensures i ∷ c.low-2.ensures i ∷ c.low-3.ensures i ∷ c.low-4.ensures i ∷ c.low-5.ensures i ∷ c.low-6.ensures i ∷ c.low-7.ensures i ∷ c.low-8.ensures i ∷ c.low-9.ensures i ∷ c.low-10.ensures i ∷ c.in_ok-tail.tail.list ∷ 0 ∷ []) c.put.ensures)
