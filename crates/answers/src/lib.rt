@@ -37,7 +37,11 @@ pub enum LineAnswer {
 // or all lines up to the last question's, and how many bytes.
 #[derive(Clone, Copy, PartialEq, Eq)]
 pub enum LinesAnswer {
-    More(u32, u32, usize),
+    More {
+        question: u32,
+        line: u32,
+        bytes: usize,
+    },
     End(usize),
 }
 
@@ -60,7 +64,7 @@ const NO_QUESTION: FileRefused = FileRefused {
     line: 0,
 };
 
-// The lengths that the answer buffer and, in their crates, the other buffers must have.
+// The length that the answer buffer must have. (Those of the other buffers are constants of their crates.)
 pub const ANSWER_BYTES: usize = 4160;
 
 // ------------------------------------------------------------------ a line
@@ -89,7 +93,8 @@ fn answer_typed(
     written
 }
 
-// Writes the line `none`. Without room for it the type words are all zero.
+// Writes the line `none`. Without room for it the type words are all zero. (It returns early, and not as `answer_typed`: with `ok_or` behind the clearing, tried, the
+// two ways meet before the answer is made, and the proof would have to part them again.)
 fn answer_none(types: &mut [u32], asked: Asked, out: &mut [u8]) -> Result<usize, LineError>
     requires { length types.old ≡ 8192 }
     ensures { SaidAnswered (asked_lead (asked_of asked)) (Verdict.worded none_word) types.old out.old types.new out.new result }
@@ -133,7 +138,7 @@ fn answer_asked(
 fn answer_refused(asked: Asked, refusal: Refusal, out: &mut [u8]) -> Step
     ensures { StepIs (line_with (asked_lead (asked_of asked)) (Verdict.refused (refusal_number refusal))) out.old out.new result }
 {
-    line_text::write_refused(asked, refusal, out).map_or(Step::NoRoom, Step::Line)
+    line_text::write_refused(asked, refusal.number(), out).map_or(Step::NoRoom, Step::Line)
 }
 
 // The line of a number, of a question that the file has; a refused one's line is written too.
@@ -184,7 +189,11 @@ fn answer_lines(
     while next < count {
         match answer_line(index, types, demands, next, line, &mut out[at..]) {
             Step::NoRoom => {
-                return LinesAnswer::More(next, line, at);
+                return LinesAnswer::More {
+                    question: next,
+                    line,
+                    bytes: at,
+                };
             }
             Step::Line(n) => {
                 at += n;

@@ -16,7 +16,8 @@ use std::marker::Model;
 // The word of the header that says how many items there are.
 const ITEM_COUNT: usize = 2;
 
-// The line as far as it is written: the first `length` of the bytes.
+// The line as far as it is written: the first `length` of the bytes. (type_text's `Writer` stays beside it: that one borrows its buffer and promises where in it the
+// bytes stand, while this one owns its bytes, and its model is the text, so that each promise is `self.new ≡ self.old ++ text`.)
 #[derive(Drop)]
 struct LineBuffer {
     bytes: [u8; 192],
@@ -126,7 +127,8 @@ fn row_total(words: &[u32], kind: RowKind) -> u64
         .sum()
 }
 
-// The line of a refused file.
+// The line of a refused file. (`put_refused` of `resolve` writes the same bytes into a lent buffer, with a `Writer`: that program would need this one's `LineBuffer`, or this
+// one a buffer and its length.)
 fn refused(refused: FileRefused) -> LineBuffer
     ensures { result ≡ refused_line (file_refusal_number refused.refusal) refused.line }
 {

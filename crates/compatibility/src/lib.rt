@@ -27,7 +27,8 @@ fn is_error_or_unknown(row: TypeData) -> bool
     matches!(row, TypeData::Error | TypeData::Unknown)
 }
 
-// The store is a slice of words: what it remembers is of the table beside it, and a struct of both would have to promise that the table stays.
+// The store is a slice of words, and no struct: what it remembers is of the table beside it, so a struct of the store alone would leave that clause in each of
+// the three functions; and a struct of both would have to promise that the table stays.
 
 // Whether a place of the store is marked. A word holds the marks of 32 places, a bit for each.
 fn is_marked(seen: &[u32], at: usize) -> bool
@@ -55,11 +56,8 @@ fn compatible(types: &Types, seen: &mut [u32], actual: u32, expected: u32) -> bo
     ensures value { result ≡ are_types_compatible (table_of types.now.file.now types.now.words.now) actual expected }
     ensures remembers_2 { Remembers types.now.file.now types.now.words.now seen.new }
 {
-    if actual == expected {
-        return true;
-    }
     let at = 256 * (actual as usize) + (expected as usize);
-    if is_marked(seen, at) {
+    if actual == expected || is_marked(seen, at) {
         return true;
     }
     if compatible_rows(types, seen, actual, expected) {
@@ -91,12 +89,7 @@ fn compatible_rows(types: &Types, seen: &mut [u32], actual: u32, expected: u32) 
                 element: y,
                 size: n,
             },
-        ) => {
-            if m != n {
-                return false;
-            }
-            compatible(types, seen, x, y)
-        }
+        ) => m == n && compatible(types, seen, x, y),
         (TypeData::Tuple(xs), TypeData::Tuple(ys)) => {
             let left = type_table::types_in(words, xs);
             let right = type_table::types_in(words, ys);
@@ -106,7 +99,9 @@ fn compatible_rows(types: &Types, seen: &mut [u32], actual: u32, expected: u32) 
     }
 }
 
-// Whether the types of two lists are compatible, place by place. The left ones are those of a type, and below it.
+// Whether the types of two lists are compatible, place by place. The left ones are those of a type, and below it. (`actual`, that type, is a parameter that only
+// the clauses use: the calls end because the left types are below it.) The loop is a `for` that returns: the closure of `all` would change the store, and of that
+// the proof would know nothing behind it. The lengths are tested before the loop, and not by `&&`: that would take the loop in a function of its own.
 #[cycle(compatible_compatible_lists_compatible_rows)]
 fn compatible_lists(
     types: &Types,
@@ -143,7 +138,7 @@ fn compare_with_store(types: &Types, actual: u32, expected: u32) -> bool
 
 // Whether a type may stand where another is expected. Only two tuples, two arrays or two pointers are compared with a store. Error and unknown are tested
 // before, and not in the last arm as in `compatible_rows`: of an arm with more patterns than one the proof doesn't know which holds, so not that the
-// numbers are of the table.
+// numbers are of the table. The two tests return each by itself, since the rows are read between them, and only where the numbers differ.
 pub fn are_types_compatible(types: &Types, actual: u32, expected: u32) -> bool
     ensures { result ≡ are_types_compatible (table_of types.now.file.now types.now.words.now) actual expected }
 {
@@ -239,7 +234,8 @@ const BINARY_ROWS: [BinaryRow; 24] = [
     binary!(BitwiseXor, U32, U32, U32),
 ];
 
-// The functions of one operand and of two are written twice: a row type that held either would need a number of operands beside them.
+// The functions of one operand and of two are written twice: a row type that held either would need a number of operands beside them. What the two searches have
+// in common is std's `find` and `map_or`.
 
 // Whether a row is of the operator and takes the operand.
 fn unary_fits(types: &Types, row: &UnaryRow, op: UnaryOp, operand: u32) -> bool

@@ -63,9 +63,13 @@ fn lines_number(answer: LinesAnswer) -> u64
     ensures { LinesPacked (lines_numbers (Ok answer)) result }
 {
     match answer {
-        LinesAnswer::More(next, line, bytes) => {
+        LinesAnswer::More {
+            question,
+            line,
+            bytes,
+        } => {
             let low = (line as u64) * SMALL + (bytes as u64) % SMALL;
-            packed(1, next as u64, low)
+            packed(1, question as u64, low)
         }
         LinesAnswer::End(bytes) => packed(0, 0, bytes as u64),
     }

@@ -6,7 +6,6 @@ ghost use Rattle.model.specs.Common.{bytes};
 ghost use Rattle.resolution.specs.Answer.{decimal, type_text, Verdict, text_verdict, asked_lead};
 ghost use Rattle.resolution.specs.TypeResolution.{none_word};
 ghost use Rattle.type_table.specs.Layout.{table_of};
-ghost use Rattle.refusals.specs.Numbers.{refusal_number};
 ghost use Rattle.views.specs.Asking.{asked_of};
 ghost use Rattle.line_text.specs.Lines.{line_error_of, LeadPut, TriedIs, WrittenIs, line_with};
 
@@ -107,14 +106,14 @@ fn write_fields(asked: Asked, fields: &[u8], out: &mut [u8]) -> Option<usize>
     Some(end)
 }
 
-// Writes the line of a refusal.
-pub fn write_refused(asked: Asked, refusal: Refusal, out: &mut [u8]) -> Option<usize>
-    ensures { WrittenIs (line_with (asked_lead (asked_of asked)) (Verdict.refused (refusal_number refusal))) out.old out.new result }
+// Writes the line of a refusal by its number. (Any number, as the promise is of any.)
+pub fn write_refused(asked: Asked, number: u32, out: &mut [u8]) -> Option<usize>
+    ensures { WrittenIs (line_with (asked_lead (asked_of asked)) (Verdict.refused number)) out.old out.new result }
 {
     let mut fields = [0u8; 20];
     let mut writer = Writer::new(&mut fields);
     writer.put(b"refused\t");
-    writer.put_decimal(refusal.number() as u64);
+    writer.put_decimal(number as u64);
     let end = writer.at;
     write_fields(asked, &fields[..end], out)
 }

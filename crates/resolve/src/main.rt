@@ -85,9 +85,13 @@ fn main(rt: HostRuntime) -> io::Result<()> {
             &mut demands,
             &mut out,
         ) {
-            LinesAnswer::More(next, next_line, k) => {
-                rt.write_all(&out[..k])?;
-                from = next;
+            LinesAnswer::More {
+                question,
+                line: next_line,
+                bytes,
+            } => {
+                rt.write_all(&out[..bytes])?;
+                from = question;
                 line = next_line;
             }
             LinesAnswer::End(k) => {

@@ -4,11 +4,12 @@ use Rattle.refusals.specs.declared.Refusal.{Refusal}
 use Rattle.type_resolution.specs.State.{answer_by}
 use Rattle.records.specs.declared.DefinitionIndex.{DefinitionIndex}
 use mathlib.Core.Path.{◌≡◌, refl, sym, ap, subst, subst⁻¹, ◌∙◌}
-use mathlib.Core.Bool.{Bool, true, false, not}
+use mathlib.Core.Bool.{Bool, true, false, false≢true, not}
 use Prim.Native.Nat.{ℕ, ◌<◌}
 use native.Mathlib.Omega.{arith}
 use mathlib.Core.List.{List}
 use Rattle.std.specs.Prelude.{Option, None, Some, unwrap_or}
+use Rattle.std.specs.Option.{is_some}
 use Rattle.model.specs.Common.{let_some as from_some}
 use Rattle.model.specs.Records as model
 use Rattle.records.specs.Meaning.{type_expr_of, definition_kind_of, definition_link_of, expression_of, origin_of, info_of, names_with_types_of}
@@ -165,6 +166,15 @@ is_array t a e = sym a.same ∙ ap found_array_of e
 pub no_array : {file T : List ℕ} (t : ℕ) {r : Option ArrayRow} → Reads file T (array_read t) (found_array_of r) → r ≡ None → as_array (data_of (table_of file T) t) ≡ None
 unfolding array_read
 no_array t a e = sym a.same ∙ ap found_array_of e
+
+-- an array is there, or none, by `is_some`
+pub there_is : {A : Type 0} (r : Option A) → is_some r ≡ true → (x : A) × (r ≡ Some x)
+there_is None e = absurd (false≢true e)
+there_is (Some x) e = (x, refl)
+
+pub there_is_none : {A : Type 0} (r : Option A) → is_some r ≡ false → r ≡ None
+there_is_none None e = refl
+there_is_none (Some x) e = absurd (false≢true (sym e))
 
 -- ------------------------------------------------------------------ consts and lets
 

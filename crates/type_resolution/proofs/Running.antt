@@ -189,6 +189,12 @@ module _ {A R : Type 0} {meaning : R → Table → Outcome A} {file words : List
   pub same_runs : {p q : Program A} → p ≡ q → Runs meaning file words q depth T O T' O' r → Runs meaning file words p depth T O T' O' r
   same_runs e a = subst⁻¹ (λ p. Runs meaning file words p depth T O T' O' r) e a
 
+-- a run whose state has another name where two ways meet
+module _ {A R : Type 0} {meaning : R → Table → Outcome A} {file words : List ℕ} {p : Program A} {depth : ℕ} {T T₁ T₂ : List ℕ} {O O₁ O₂ : List (List ℕ)} {r : R} where
+  pub joined : T₂ ≡ T₁ → O₂ ≡ O₁ → Runs meaning file words p depth T O T₁ O₁ r → Runs meaning file words p depth T O T₂ O₂ r
+  joined e h a =
+      subst⁻¹ (λ y. Runs meaning file words p depth T O y O₂ r) e (subst⁻¹ (λ y. Runs meaning file words p depth T O T₁ y r) h a)
+
 -- ------------------------------------------------------------------ opening a demand
 
 -- what an answer is handed on to, itself

@@ -9,7 +9,10 @@
 // promises of the reads (`type_table`) would say nothing of the words that are changed next. The module stands in no struct with the index either: a
 // `use` leads into another module of the same index, and each demand names its module by number.
 // All is one file, since the members are one cycle and proved together: in modules each goal's name would begin with its member's module as well, and
-// no member would know less of the others. What a read gives as a pair is taken apart where it is read, so the pairs have no names of their own.
+// no member would know less of the others.
+// `depth` goes by value: a member hands on how many are open with its own demand, so that a return closes that demand by itself. A module and a definition are
+// `home` and `definition` where a type holds them (`type_table`), and `m` and `d` where they are asked for, as in the definition's demands. An array of 2,048 words
+// with a count beside it stands for a list: there is no heap, and no file has more items.
 #![tactic(auto)]
 
 ghost use Rattle.std.specs.Prelude.{◌≡◌, ◌+◌, ◌≤◌, ◌<◌, Some, length};
@@ -206,13 +209,14 @@ fn array(
         return Ok(type_table::ERROR);
     }
     let element = ast_type(index, types, demands, depth, m, t, s)?;
-    match type_table::array_of(types, element) {
-        Some(_) => Ok(type_table::ERROR),
-        None => type_table::intern_array(index.file, types, element, size),
+    if type_table::array_of(types, element).is_some() {
+        return Ok(type_table::ERROR);
     }
+    type_table::intern_array(index.file, types, element, size)
 }
 
-// Each T of a list, in the scope.
+// Each T of a list, in the scope. A `for` over the places, here and in `args` and `same`, for the reason that stands at `elems`; and `first` and `count` are named,
+// since a loop's facts are said of names.
 #[cycle(resolution)]
 fn all(
     index: &Index,
@@ -726,31 +730,24 @@ fn bin(
 {
     let a = left.ok_or(Refusal::MissingChild)?;
     let b = right.ok_or(Refusal::MissingChild)?;
-    if views::right_first(index.words, m, op, a, b) {
+    let (x, y) = if views::right_first(index.words, m, op, a, b) {
         let y = expr_type(index, types, demands, depth, m, b, context)?;
         let x = expr_type(index, types, demands, depth, m, a, Some(y))?;
-        Ok(compatibility::binary_result(
-            &Types {
-                file: index.file,
-                words: types,
-            },
-            op,
-            x,
-            y,
-        ))
+        (x, y)
     } else {
         let x = expr_type(index, types, demands, depth, m, a, context)?;
         let y = expr_type(index, types, demands, depth, m, b, Some(x))?;
-        Ok(compatibility::binary_result(
-            &Types {
-                file: index.file,
-                words: types,
-            },
-            op,
-            x,
-            y,
-        ))
-    }
+        (x, y)
+    };
+    Ok(compatibility::binary_result(
+        &Types {
+            file: index.file,
+            words: types,
+        },
+        op,
+        x,
+        y,
+    ))
 }
 
 // A field of a struct; error where the object is missing or no struct.
@@ -1061,16 +1058,17 @@ fn rep(
 
 // ------------------------------------------------------------------ what is asked
 
-// A type, or why there is none, as what a line says.
+// A type, or why there is none, as what a line says. Not written out at its four calls: the definition `said_type` is its promise, which the four proofs hand on.
 fn said_type(resolved: Result<u32, Refusal>) -> Result<Option<u32>, Refusal>
     ensures { result ≡ said_type resolved }
 {
     resolved.map(Some)
 }
 
-// What the line says: a type, or the word `none`, or a refusal. (A match within a match, as in `answers`, and for the reason that stands there.) An absent module, expression or definition gives error, but for a byte: there it gives `none`. A
+// What the line says: a type, or the word `none`, or a refusal. An absent module, expression or definition gives error, but for a byte: there it gives `none`. A
 // context is resolved first, in e's scope. It asks for a started table, the 256 places and records within their limit (`Ready`): `answers`, its only caller, has
-// just loaded the file.
+// just loaded the file. (A match within a match: with `Expr(m, e, None)` and `Expr(m, e, Some(t))` as patterns, tried, what the context is stands in its goal as a
+// projection of `asked`, and the proof didn't get back from it to the context that `Expr` holds.)
 pub fn resolve_asked(
     index: &Index,
     types: &mut [u32],

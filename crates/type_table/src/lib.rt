@@ -9,7 +9,7 @@ ghost use Rattle.resolution.specs.TypeData.{TypeData as Data};
 ghost use Rattle.resolution.specs.Types.{eq_names, data_of, field_type, find_type, as_struct};
 ghost use Rattle.resolution.specs.TableOk.{row_types, TableOk};
 ghost use Rattle.resolution.specs.Views.{typed_fields, suffix_type};
-ghost use Rattle.type_table.specs.Layout.{part, head_at, items_at, names_at, type_count, item_count};
+ghost use Rattle.type_table.specs.Layout.{part, head_at, start_at, count_at, items_at, names_from, names_at, type_count, item_count};
 ghost use Rattle.type_table.specs.Layout.{types_of, data_from, AllBelow, table_of, Sound, Canonical};
 ghost use Rattle.type_table.specs.Meaning.{fields_in, found_fields_of, found_array_of};
 ghost use Rattle.type_table.specs.Reads.{struct_or_error, member_read, element_read, tuple_element_read};
@@ -71,7 +71,7 @@ struct Head {
     size: u64,
 }
 
-// A list of types: a range of the items.
+// A list of types: a range of the items here. (`records::Items` is a range of the file's items: two types, so that neither is read in the other's words.)
 #[derive(Clone, Copy, PartialEq, Eq)]
 pub struct TypeList {
     pub first: u32,
@@ -175,14 +175,29 @@ fn head_at(types: &[u32], t: u32) -> Head
     }
 }
 
+// Where the list of the row of a type lies.
+fn list_at(types: &[u32], t: u32) -> TypeList
+    ensures first { result.first ≡ start_at types.now t }
+    ensures count { result.count ≡ count_at types.now t }
+{
+    let at = 8 * (t as usize);
+    let first = records::word_at(types, at + 8);
+    let count = records::word_at(types, at + 9);
+    TypeList { first, count }
+}
+
 // The list of the row of a type.
 fn items_at(types: &[u32], t: u32) -> &[u32]
     ensures { result.now ≡ items_at types.now t }
 {
-    let at = 8 * (t as usize);
-    let start = records::word_at(types, at + 8) as usize;
-    let count = records::word_at(types, at + 9) as usize;
-    words_from(types, ITEMS + start, count)
+    types_in(types, list_at(types, t))
+}
+
+// The names beside the types of a list.
+fn names_in(types: &[u32], list: TypeList) -> &[u32]
+    ensures { result.now ≡ names_from types.now list.first list.count }
+{
+    words_from(types, NAMES + (list.first as usize), list.count as usize)
 }
 
 // The names of the row of a type, where it is a struct.
@@ -191,11 +206,10 @@ fn names_at(types: &[u32], t: u32) -> &[u32]
 {
     let at = 8 * (t as usize);
     if records::word_at(types, at + 2) == KIND_STRUCT {
-        let start = records::word_at(types, at + 8) as usize;
-        let count = records::word_at(types, at + 9) as usize;
-        return words_from(types, NAMES + start, count);
+        names_in(types, list_at(types, t))
+    } else {
+        &[]
     }
-    &[]
 }
 
 fn same_names(file: &[u8], a: &[u32], b: &[u32]) -> bool
@@ -209,7 +223,8 @@ fn same_names(file: &[u8], a: &[u32], b: &[u32]) -> bool
         ))
 }
 
-// Copies all of src to a place. (loader's `put` and that of type_text's `Writer` write at a place too; each promises what its own layout is read by.)
+// Copies all of src to a place. (loader's `put`, that of type_text's `Writer` and that of check_index's `LineBuffer` write at a place too; each promises what its
+// own layout is read by.)
 fn copy_to(words: &mut [u32], at: usize, src: &[u32])
     requires { at + length src.now ≤ length words.old }
     ensures { Copied at src.now words.old words.new }
@@ -218,7 +233,7 @@ fn copy_to(words: &mut [u32], at: usize, src: &[u32])
     words[at..end].copy_from_slice(src);
 }
 
-// Sets the first 8,192 words to zero.
+// Sets the first 8,192 words to zero. (`demands` and `loader` have a `clear` of their own: each knows how many words its buffer counts, and promises that much.)
 pub fn clear(types: &mut [u32])
     ensures { types.new ≡ cleared types.old }
 {
@@ -252,10 +267,7 @@ pub fn data(types: &[u32], t: u32) -> TypeData
         return TypeData::Error;
     }
     let head = head_at(types, t);
-    let at = 8 * (t as usize);
-    let first = records::word_at(types, at + 8);
-    let count = records::word_at(types, at + 9);
-    let list = TypeList { first, count };
+    let list = list_at(types, t);
     let kind = head.kind;
     match kind {
         FELT => TypeData::Felt,
@@ -283,7 +295,8 @@ pub fn data(types: &[u32], t: u32) -> TypeData
     }
 }
 
-// What a type of one kind holds. Functions of the words and a number, and not methods of `TypeData`: what they promise is of the table's type of that number.
+// What a type of one kind holds. Functions of the words and a number, and not methods of `TypeData`: what they promise is of the table's type of that number. The
+// four are alike, and each is one match: they give other parts of another kind, and promise another thing.
 
 // The elements of a tuple.
 fn tuple_of(types: &[u32], t: u32) -> Option<TypeList>
@@ -362,8 +375,7 @@ pub fn item(types: &[u32], list: TypeList, i: u32) -> Option<u32>
 fn field_type(file: &[u8], types: &[u32], list: TypeList, name: Name) -> Option<u32>
     ensures { result ≡ field_type (fields_in file.now types.now list) (name_of file.now name) }
 {
-    let names = words_from(types, NAMES + (list.first as usize), list.count as usize);
-    names
+    names_in(types, list)
         .iter()
         .zip(types_in(types, list))
         .find(|(x, _)| names::same_name(file, records::name_of(**x), name))
@@ -449,7 +461,8 @@ pub fn element_contexts(types: &[u32], context: Option<u32>, count: u32) -> Type
         .unwrap_or(NO_TYPES)
 }
 
-// Along the path of a destructured value. (A step that leads nowhere ends it with error: a `for`, and no fold.)
+// Along the path of a destructured value. (A step that leads nowhere ends it with error. With `try_fold` the step would be a closure with a promise of its own, and
+// the loop's invariant would be said of the fold: as much to read, and no index less, since a path's numbers are read by their place in the list.)
 pub fn navigate(words: &[u32], types: &[u32], current: u32, path: Items) -> u32
     ensures { (file : List ℕ) → Reads file types.now (navigate_read current (numbers_of words.now path)) result }
 {
@@ -518,6 +531,7 @@ fn add_row(types: &mut [u32], new: &NewType)
     let held = types[1];
     let head = new.head;
     let count = new.items.len() as u32;
+    // The two words that `records::size_of` reads back as the size, split here alone.
     let low = (head.size % 4294967296) as u32;
     let high = (head.size / 4294967296) as u32;
     let row = [

@@ -12,7 +12,7 @@ use type_table::{TypeData, Types};
 // The most bytes that a type's text may have.
 const MAX_TEXT: usize = 4096;
 
-// The length that stands for every one over the limit.
+// The length that stands for every one over the limit: 4,097, as in the promise `min 4097 ..`, which is one equation; an Option of a length would make it two.
 const OVER: usize = 4097;
 
 // Why a type's text is not written.
@@ -53,7 +53,7 @@ impl<'a> Writer<'a> {
         self.at = end;
     }
 
-    // Writes a number in decimal.
+    // Writes a number in decimal. The recursion is the definition's: the digits before the last, then the last.
     pub fn put_decimal(&mut self, n: u64)
         requires { self.old.at + length (decimal n) ≤ length self.old.out.now }
         ensures { Writes (decimal n) self.old self.new }
@@ -90,7 +90,17 @@ fn decimal_length(n: u64) -> usize
 
 // ------------------------------------------------------------------ measuring
 
-// A `Types` is a table as interning leaves it: measuring and writing go down by type numbers, an element's below its holder's.
+// A `Types` is a table as interning leaves it: measuring and writing go down by type numbers, an element's below its holder's. Below, `holder` is a parameter that only
+// the clauses use: it says below which number a list's types are, which ends the calls, and a list alone doesn't say it.
+// Measuring stands beside writing, since it asks for no room and stops at 4,097; a writer that only counts would ask for the room that is still to be measured.
+
+// The length of the two numbers of a definition.
+fn definition_length(home: u32, definition: u32) -> usize
+    ensures count { result ≡ length (decimal home) + length (decimal definition) }
+    ensures few { result ≤ 40 }
+{
+    decimal_length(home as u64) + decimal_length(definition as u64)
+}
 
 // A length, where all over 4,096 count as 4,097.
 fn capped(n: usize) -> usize
@@ -128,18 +138,16 @@ fn measure_type(types: &Types, t: u32, used: usize) -> usize
             definition,
             ..
         } => {
-            let first = decimal_length(home as u64);
-            let second = decimal_length(definition as u64);
-            capped(used + 8 + first + second)
+            let numbers = definition_length(home, definition);
+            capped(used + 8 + numbers)
         }
         TypeData::Function {
             home,
             definition,
             ..
         } => {
-            let first = decimal_length(home as u64);
-            let second = decimal_length(definition as u64);
-            capped(used + 4 + first + second)
+            let numbers = definition_length(home, definition);
+            capped(used + 4 + numbers)
         }
     }
 }
@@ -167,6 +175,7 @@ fn text_length(types: &Types, t: u32) -> usize
 {
     measure_type(types, t, 0)
 }
+
 // ------------------------------------------------------------------ writing
 
 // Writes the text of a type.

@@ -2,6 +2,7 @@
 use mathlib.Core.Path.{◌≡◌, sym, ap, ap₂, ◌∙◌}
 use Rattle.std.proofs.lemmas.Iterator.{empty_from_Zip}
 use Rattle.std.proofs.lemmas.Slice.Zip.{Zip-more}
+use borrow.Author.Tests.{eqb-true, ne_eqb}
 use lib.ListN.{length}
 use Rattle.compatibility.specs.Pairs.{lists_compatible}
 use mathlib.Core.Bool.{true, false, not}
@@ -13,12 +14,16 @@ use Rattle.compatibility.proofs.Store.{mark}
 use Rattle.compatibility.proofs.ByKind.{Apart, apart_pointer, apart_array, apart_tuple, apart_plain, or_first, or_second}
 use Rattle.compatibility.proofs.Compared.{numbers_equal, rows_tested, pointer_below, array_below, tuple_below, rows_pointer, rows_sizes, rows_array, rows_tuple, rows_apart, lists_step, lists_stop, lists_end, lists_length}
 use Rattle.compatibility.proofs.+compatible_compatible_lists_compatible_rows.Goals as goal
-use Rattle.compatibility.proofs.+compatible_compatible_lists_compatible_rows.Goals.{compatible_rows-in_default-via-in-Pointer+in_default, compatible_rows-in_default-via-in-FixedArray+in_default, compatible_rows-in_default-via-in-Tuple+in_default, compatible_rows-in_default-via-in_default}
+use Rattle.compatibility.proofs.+compatible_compatible_lists_compatible_rows.Goals.{compatible-then-actual-expected-via-then-actual-expected, compatible-then-actual-expected-via-else-actual-expected+then-is_marked, compatible_rows-in_default-via-in-Pointer+in_default, compatible_rows-in_default-via-in-FixedArray+in_default, compatible_rows-in_default-via-in-Tuple+in_default, compatible_rows-in_default-via-in_default}
 
 pub compatible-returns-then-actual-expected-clause-value : goal.compatible-returns-then-actual-expected-clause-value
 compatible-returns-then-actual-expected-clause-value t c =
     let types = c.args.types.now in
-    numbers_equal types.file.now types.words.now c.args.actual c.args.expected c.if-actual-expected.true
+    elim c.then-actual-expected.branch [
+      | compatible-then-actual-expected-via-then-actual-expected w ↦ numbers_equal types.file.now types.words.now c.args.actual c.args.expected w.if-actual-expected.true
+      | compatible-then-actual-expected-via-else-actual-expected+then-is_marked w ↦
+          sym (c.requires.remembers.marked _ _ c.requires.actual_bound.0 c.requires.actual_bound.1 (eqb-true _ _ (sym w.is_marked.ensures ∙ w.if-is_marked.true)))
+    ]
 
 pub compatible-returns-then-compatible_rows-clause-remembers_2 : goal.compatible-returns-then-compatible_rows-clause-remembers_2
 compatible-returns-then-compatible_rows-clause-remembers_2 t c =
@@ -79,20 +84,20 @@ pub compatible_rows-returns-in-Pointer-Pointer-clause-value : goal.compatible_ro
 compatible_rows-returns-in-Pointer-Pointer-clause-value t c =
     rows_pointer c.data-a.ensures c.data-e.ensures c.args.types.now.file.now c.compatible.result c.in-Pointer-Pointer.is-0 c.in-Pointer-Pointer.is-1 c.compatible.ensures.value
 
-pub compatible_rows-returns-then-m-n-clause-value : goal.compatible_rows-returns-then-m-n-clause-value
-compatible_rows-returns-then-m-n-clause-value t c =
-    rows_sizes c.data-a.ensures c.data-e.ensures c.args.types.now.file.now c.in-FixedArray-FixedArray.is-0 c.in-FixedArray-FixedArray.is-1 c.if-m-n.true
+pub compatible_rows-returns-else-m-n-clause-value : goal.compatible_rows-returns-else-m-n-clause-value
+compatible_rows-returns-else-m-n-clause-value t c =
+    ne_eqb _ _ c.if-m-n.false ∙ rows_sizes c.data-a.ensures c.data-e.ensures c.args.types.now.file.now c.in-FixedArray-FixedArray.is-0 c.in-FixedArray-FixedArray.is-1 c.if-m-n.false
 
-pub compatible_rows-compatible-requires-in-FixedArray-FixedArray : goal.compatible_rows-compatible-requires-in-FixedArray-FixedArray
-compatible_rows-compatible-requires-in-FixedArray-FixedArray t c =
+pub compatible_rows-compatible-requires-then-m-n : goal.compatible_rows-compatible-requires-then-m-n
+compatible_rows-compatible-requires-then-m-n t c =
     let types = c.args.types.now in
     let below-a = array_below c.data-a.ensures types.file.now types.sound c.in-FixedArray-FixedArray.is-0 in
     let below-e = array_below c.data-e.ensures types.file.now types.sound c.in-FixedArray-FixedArray.is-1 in
     (omega arith, ((omega (arith, below-a, c.requires.actual_bound.0), omega (arith, below-e, c.requires.actual_bound.1)), c.requires.remembers))
 
-pub compatible_rows-returns-else-m-n-clause-value : goal.compatible_rows-returns-else-m-n-clause-value
-compatible_rows-returns-else-m-n-clause-value t c =
-    rows_array c.data-a.ensures c.data-e.ensures c.args.types.now.file.now c.in-FixedArray-FixedArray.is-0 c.in-FixedArray-FixedArray.is-1 c.compatible-in-FixedArray-FixedArray.result c.if-m-n.false c.compatible-in-FixedArray-FixedArray.ensures.value
+pub compatible_rows-returns-then-m-n-clause-value : goal.compatible_rows-returns-then-m-n-clause-value
+compatible_rows-returns-then-m-n-clause-value t c =
+    rows_array c.data-a.ensures c.data-e.ensures c.args.types.now.file.now c.in-FixedArray-FixedArray.is-0 c.in-FixedArray-FixedArray.is-1 c.compatible-then-m-n.result c.if-m-n.true c.compatible-then-m-n.ensures.value
 
 pub compatible_rows-compatible_lists-requires : goal.compatible_rows-compatible_lists-requires
 compatible_rows-compatible_lists-requires t c =

@@ -3,8 +3,8 @@ use Rattle.std.proofs.Common.{◌≡◌, length}
 use Rattle.answers.specs.Whole.{lines_left}
 use Rattle.resolve.proofs.main.Given as goal
 
-abbrev pub invariant-loop-next : goal.invariant-loop-next
-invariant-loop-next l = (16384 ≡ length l.records) × (8192 ≡ length l.types) × (256 ≡ length l.demands) × (4160 ≡ length l.out)
+abbrev pub invariant-loop-question : goal.invariant-loop-question
+invariant-loop-question l = (16384 ≡ length l.records) × (8192 ≡ length l.types) × (256 ≡ length l.demands) × (4160 ≡ length l.out)
 
-abbrev pub decreases-loop-next : goal.decreases-loop-next
-decreases-loop-next l = lines_left l.file l.from l.line
+abbrev pub decreases-loop-question : goal.decreases-loop-question
+decreases-loop-question l = lines_left l.file l.from l.line

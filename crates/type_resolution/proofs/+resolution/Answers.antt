@@ -1,24 +1,28 @@
 -- The proof of the cycle of calls. Assumes nothing.
-use mathlib.Core.Path.{refl, ap, ◌∙◌, sym, subst}
+use mathlib.Core.Path.{refl, ap, ap₂, ◌∙◌, sym, subst, subst⁻¹}
 use native.Mathlib.Omega.{arith}
 use lib.ListN.{take}
 use Rattle.std.specs.Prelude.{slice_get}
 use Rattle.refusals.specs.declared.Refusal.{Refusal}
-use Rattle.records.specs.Meaning.{expression_link_of, type_link_of, definition_link_of}
+use Rattle.records.specs.Meaning.{expression_link_of, type_link_of, definition_link_of, binary_op_of}
+use Rattle.resolution.specs.Compatible.{binary_result, binary_op_signatures}
 use Rattle.resolution.specs.TypeResolution.{resolve_all, infer_arguments, infer_elements, array_type, all_same_type, binary_type, call_type, definition_kind_type, empty_array_type, new_type, node_type, parenthesized_type, infer_only, context_from_origin, assignment_context, return_context, array_repeat_type, tuple_type, type_expr_type, unary_type}
 use Rattle.views.specs.Meaning.{found_import_of, found_field_type_of}
+use Rattle.type_table.specs.Layout.{table_of, Sound}
+use Rattle.resolution.specs.TableOk.{TableOk}
 use Rattle.type_table.specs.Reads.{numeric_context_read}
 use Rattle.type_table.specs.Meaning.{found_signature_of}
 use Rattle.type_resolution.specs.Shapes.{ShortNode, ShortType, empty_array_in, struct_named, repeat_in, tuple_expr_type}
 use Rattle.type_resolution.proofs.Leading.{leads_from, numbers_begin, collecting_begin, all_more, all_stops, all_ends, links_begin, arguments_more, arguments_stop, arguments_done, types_kept, gathering_begin, elements_more, elements_skip, elements_stop, elements_end, at_most_all, taken_length, links_behind_first, same_absent, same_more, same_differs, same_stops, same_all}
-use Rattle.type_resolution.proofs.Running.{then_given, then_refused, child_runs, is_ok, is_err, is_handed_on, was_there, was_missing, missing_runs, answers, then_on, then_stop, if_true, if_false, some_runs, none_runs, data_runs, entered_ready, entered_stops, entered_runs, enter_falls, look_runs, reads, same_runs, ends, knows, knows_nothing}
+use Rattle.type_resolution.proofs.Running.{joined, then_given, then_refused, child_runs, is_ok, is_err, is_handed_on, was_there, was_missing, missing_runs, answers, then_on, then_stop, if_true, if_false, some_runs, none_runs, data_runs, entered_ready, entered_stops, entered_runs, enter_falls, look_runs, reads, same_runs, ends, knows, knows_nothing}
 use Rattle.type_resolution.proofs.Below.{expression_below, later_below, interns_runs, type_below, collected_below, later_all_below, elements_below, contexts_good}
-use Rattle.type_resolution.proofs.Arms.{hinted, hint_found, is_array, no_array, by_kind, or_error_runs, let_whole, let_part, element_below, hint_at, eq-eqb, ne_eqb, function_parted, no_function, numeric_runs, by_node, led_to, from_origin, given_context, passed_runs, returned_runs, repeated, struct_fielded, no_struct, by_type_expr, declared_as, valued_as, neither_as}
+use Rattle.type_resolution.proofs.Arms.{hinted, hint_found, there_is, there_is_none, is_array, no_array, by_kind, or_error_runs, let_whole, let_part, element_below, hint_at, eq-eqb, ne_eqb, function_parted, no_function, numeric_runs, by_node, led_to, from_origin, given_context, passed_runs, returned_runs, repeated, struct_fielded, no_struct, by_type_expr, declared_as, valued_as, neither_as}
 use Rattle.type_resolution.proofs.Chains.{no_elements, some_elements, use_shaped, struct_listed, literal_numbered, identifier_shaped, literal_shaped, array_shaped, argument_shaped, field_shaped, signature_listed, tuple_looked}
 use Rattle.type_resolution.proofs.Finding.{type_found, type_absent, definition_found, definition_absent, expression_found, expression_absent, signature_found, signature_absent, struct_found, struct_absent}
 use Rattle.type_resolution.proofs.Short.{short_type, short_node, short_params, short_fields, links_length}
 use Rattle.type_resolution.proofs.Shaped.{const_declared, let_declared, index_reads, member_reads, literal_named, tuple_index_reads, custom_named}
 use Rattle.type_resolution.proofs.+resolution.Goals as goal
+use Rattle.type_resolution.proofs.+resolution.Goals.{bin-then-right_first+in_ok-y+in_ok-x, bin-else-right_first+in_ok-x-2+in_ok-y-2}
 
 pub all-loop-i-init : goal.all-loop-i-init
 all-loop-i-init t c = leads_from _ (ap (resolve_all _ _) (numbers_begin _ _ _) ∙ collecting_begin _ _ _) c.requires.ready
@@ -97,13 +101,13 @@ array-intern_array-requires-clause-sound t c = c.ast_type.ensures.ready.sound
 pub array-intern_array-requires-clause-element_bound : goal.array-intern_array-requires-clause-element_bound
 array-intern_array-requires-clause-element_bound t c = type_below c.requires c.ast_type.ensures c.in_ok-element.was
 
-pub array-returns-in-Some : goal.array-returns-in-Some
+pub array-returns-then-is_some : goal.array-returns-then-is_some
 unfolding array_type
-array-returns-in-Some t c = if_false _ _ _ (c.names_array_expr.ensures.same _) c.if-names_array_expr.false (then_given c.ast_type.ensures _ c.in_ok-element.was (data_runs _ _ (some_runs _ _ _ (is_array _ (c.array_of.ensures _) c.in-Some.is) (answers c.ast_type.ensures.ready refl))))
+array-returns-then-is_some t c = if_false _ _ _ (c.names_array_expr.ensures.same _) c.if-names_array_expr.false (then_given c.ast_type.ensures _ c.in_ok-element.was (data_runs _ _ (some_runs _ _ _ (is_array _ (c.array_of.ensures _) (there_is c.array_of.result (sym c.is_some.ensures ∙ c.if-is_some.true)).1) (answers c.ast_type.ensures.ready refl))))
 
-pub array-returns-in-None : goal.array-returns-in-None
+pub array-returns : goal.array-returns
 unfolding array_type
-array-returns-in-None t c = if_false _ _ _ (c.names_array_expr.ensures.same _) c.if-names_array_expr.false (then_given c.ast_type.ensures _ c.in_ok-element.was (data_runs _ _ (none_runs _ _ _ (no_array _ (c.array_of.ensures _) c.in-None.is) (interns_runs c.ast_type.ensures.ready c.intern_array.ensures))))
+array-returns t c = if_false _ _ _ (c.names_array_expr.ensures.same _) c.if-names_array_expr.false (then_given c.ast_type.ensures _ c.in_ok-element.was (data_runs _ _ (none_runs _ _ _ (no_array _ (c.array_of.ensures _) (there_is_none c.array_of.result (sym c.is_some.ensures ∙ c.if-is_some.false))) (interns_runs c.ast_type.ensures.ready c.intern_array.ensures))))
 
 pub ast_type-returns-in_err-next : goal.ast_type-returns-in_err-next
 ast_type-returns-in_err-next t c = entered_stops c.requires c.enter.ensures c.in_err-next.was (is_handed_on _ _ c.from_residual.ensures)
@@ -153,13 +157,31 @@ pub bin-returns-in_err-y-2 : goal.bin-returns-in_err-y-2
 unfolding binary_type
 bin-returns-in_err-y-2 t c = child_runs _ _ c.ok_or.ensures.ok_part c.in_ok-a.was (child_runs _ _ c.ok_or-2.ensures.ok_part c.in_ok-b.was (if_false _ _ _ (c.right_first.ensures.same _) c.if-right_first.false (then_given c.expr_type-else-right_first.ensures _ c.in_ok-x-2.was (then_refused c.expr_type-else-right_first-2.ensures _ c.in_err-y-2.was c.from_residual-in_err-y-2.ensures))))
 
-pub bin-returns-in_ok-x : goal.bin-returns-in_ok-x
-unfolding binary_type
-bin-returns-in_ok-x t c = child_runs _ _ c.ok_or.ensures.ok_part c.in_ok-a.was (child_runs _ _ c.ok_or-2.ensures.ok_part c.in_ok-b.was (if_true _ _ _ (c.right_first.ensures.same _) c.if-right_first.true (then_given c.expr_type.ensures _ c.in_ok-y.was (then_given c.expr_type-then-right_first.ensures _ c.in_ok-x.was (look_runs _ (answers c.expr_type-then-right_first.ensures.ready c.binary_result.ensures))))))
+pub bin-invariant_of-binary_result-clause-sound : goal.bin-invariant_of-binary_result-clause-sound
+bin-invariant_of-binary_result-clause-sound t c =
+    elim c.if-right_first.branch [
+      | bin-then-right_first+in_ok-y+in_ok-x w ↦ subst⁻¹ (Sound c.args.index.now.file.now) w.types-is w.expr_type-then-right_first.ensures.ready.sound
+      | bin-else-right_first+in_ok-x-2+in_ok-y-2 w ↦ subst⁻¹ (Sound c.args.index.now.file.now) w.types-is w.expr_type-else-right_first-2.ensures.ready.sound
+    ]
 
-pub bin-returns-in_ok-y-2 : goal.bin-returns-in_ok-y-2
+pub bin-invariant_of-binary_result-clause-table_ok : goal.bin-invariant_of-binary_result-clause-table_ok
+bin-invariant_of-binary_result-clause-table_ok t c =
+    elim c.if-right_first.branch [
+      | bin-then-right_first+in_ok-y+in_ok-x w ↦ ∣ subst⁻¹ (λ T. TableOk (table_of c.args.index.now.file.now T)) w.types-is w.expr_type-then-right_first.ensures.ready.ok ∣₁
+      | bin-else-right_first+in_ok-x-2+in_ok-y-2 w ↦ ∣ subst⁻¹ (λ T. TableOk (table_of c.args.index.now.file.now T)) w.types-is w.expr_type-else-right_first-2.ensures.ready.ok ∣₁
+    ]
+
+pub bin-returns : goal.bin-returns
 unfolding binary_type
-bin-returns-in_ok-y-2 t c = child_runs _ _ c.ok_or.ensures.ok_part c.in_ok-a.was (child_runs _ _ c.ok_or-2.ensures.ok_part c.in_ok-b.was (if_false _ _ _ (c.right_first.ensures.same _) c.if-right_first.false (then_given c.expr_type-else-right_first.ensures _ c.in_ok-x-2.was (then_given c.expr_type-else-right_first-2.ensures _ c.in_ok-y-2.was (look_runs _ (answers c.expr_type-else-right_first-2.ensures.ready c.binary_result-else-right_first.ensures))))))
+bin-returns t c =
+    elim c.if-right_first.branch [
+      | bin-then-right_first+in_ok-y+in_ok-x w ↦
+          child_runs _ _ c.ok_or.ensures.ok_part c.in_ok-a.was (child_runs _ _ c.ok_or-2.ensures.ok_part c.in_ok-b.was
+          (joined w.types-is w.demands-is (if_true _ _ _ (c.right_first.ensures.same _) w.if-right_first.true (then_given w.expr_type.ensures _ w.in_ok-y.was (then_given w.expr_type-then-right_first.ensures _ w.in_ok-x.was (look_runs _ (answers w.expr_type-then-right_first.ensures.ready (c.binary_result.ensures ∙ ap₂ (λ T x. binary_result (table_of c.args.index.now.file.now T) binary_op_signatures (binary_op_of c.args.op) x.0 x.1) w.types-is w.x-is))))))))
+      | bin-else-right_first+in_ok-x-2+in_ok-y-2 w ↦
+          child_runs _ _ c.ok_or.ensures.ok_part c.in_ok-a.was (child_runs _ _ c.ok_or-2.ensures.ok_part c.in_ok-b.was
+          (joined w.types-is w.demands-is (if_false _ _ _ (c.right_first.ensures.same _) w.if-right_first.false (then_given w.expr_type-else-right_first.ensures _ w.in_ok-x-2.was (then_given w.expr_type-else-right_first-2.ensures _ w.in_ok-y-2.was (look_runs _ (answers w.expr_type-else-right_first-2.ensures.ready (c.binary_result.ensures ∙ ap₂ (λ T x. binary_result (table_of c.args.index.now.file.now T) binary_op_signatures (binary_op_of c.args.op) x.0 x.1) w.types-is w.x-is))))))))
+    ]
 
 pub call-returns-then-callee_is_builtin : goal.call-returns-then-callee_is_builtin
 unfolding call_type

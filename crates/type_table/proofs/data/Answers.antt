@@ -33,7 +33,7 @@ returns-in-3 c = record { same = λ file. sym (data_kind file c.args.types.now c
 pub returns-in-5 : goal.returns-in-5
 unfolding data_by
 returns-in-5 c =
-    record { same = λ file. ap₂ (λ x y. TypeData.Tuple (items_from c.args.types.now x y)) c.word_at-first.ensures c.word_at-count.ensures ∙ sym (data_kind file c.args.types.now c.args.t 5 c.head_at-head.result (omega (arith, c.word_at.ensures)) c.head_at-head.ensures c.in-5.is); within = λ file sound. omega (arith, c.word_at-first.ensures, c.word_at-count.ensures, (sound.rows c.args.t (omega (arith, c.word_at.ensures))).within) }
+    record { same = λ file. ap₂ (λ x y. TypeData.Tuple (items_from c.args.types.now x y)) c.list_at-list.ensures.first c.list_at-list.ensures.count ∙ sym (data_kind file c.args.types.now c.args.t 5 c.head_at-head.result (omega (arith, c.word_at.ensures)) c.head_at-head.ensures c.in-5.is); within = λ file sound. omega (arith, c.list_at-list.ensures.first, c.list_at-list.ensures.count, (sound.rows c.args.t (omega (arith, c.word_at.ensures))).within) }
 
 pub returns-in-6 : goal.returns-in-6
 unfolding data_by
@@ -49,16 +49,16 @@ returns-in-8 c =
     record {
       same =
           λ file.
-          ap₂ (λ x y. TypeData.Struct c.head_at-head.result.home c.head_at-head.result.definition (fields_of file (names_from c.args.types.now x y) (items_from c.args.types.now x y))) c.word_at-first.ensures c.word_at-count.ensures
+          ap₂ (λ x y. TypeData.Struct c.head_at-head.result.home c.head_at-head.result.definition (fields_of file (names_from c.args.types.now x y) (items_from c.args.types.now x y))) c.list_at-list.ensures.first c.list_at-list.ensures.count
           ∙ ap (λ l. TypeData.Struct c.head_at-head.result.home c.head_at-head.result.definition (fields_of file l (items_at c.args.types.now c.args.t))) (sym (names_struct c.args.types.now c.args.t c.head_at-head.result c.head_at-head.ensures c.in-8.is))
           ∙ sym (data_kind file c.args.types.now c.args.t 8 c.head_at-head.result (omega (arith, c.word_at.ensures)) c.head_at-head.ensures c.in-8.is);
-      within = λ file sound. omega (arith, c.word_at-first.ensures, c.word_at-count.ensures, (sound.rows c.args.t (omega (arith, c.word_at.ensures))).within);
+      within = λ file sound. omega (arith, c.list_at-list.ensures.first, c.list_at-list.ensures.count, (sound.rows c.args.t (omega (arith, c.word_at.ensures))).within);
     }
 
 pub returns-in-9 : goal.returns-in-9
 unfolding data_by
 returns-in-9 c =
-    record { same = λ file. ap₂ (λ x y. TypeData.Function c.head_at-head.result.home c.head_at-head.result.definition (items_from c.args.types.now x y) c.head_at-head.result.element) c.word_at-first.ensures c.word_at-count.ensures ∙ sym (data_kind file c.args.types.now c.args.t 9 c.head_at-head.result (omega (arith, c.word_at.ensures)) c.head_at-head.ensures c.in-9.is); within = λ file sound. omega (arith, c.word_at-first.ensures, c.word_at-count.ensures, (sound.rows c.args.t (omega (arith, c.word_at.ensures))).within) }
+    record { same = λ file. ap₂ (λ x y. TypeData.Function c.head_at-head.result.home c.head_at-head.result.definition (items_from c.args.types.now x y) c.head_at-head.result.element) c.list_at-list.ensures.first c.list_at-list.ensures.count ∙ sym (data_kind file c.args.types.now c.args.t 9 c.head_at-head.result (omega (arith, c.word_at.ensures)) c.head_at-head.ensures c.in-9.is); within = λ file sound. omega (arith, c.list_at-list.ensures.first, c.list_at-list.ensures.count, (sound.rows c.args.t (omega (arith, c.word_at.ensures))).within) }
 
 pub returns-in_default : goal.returns-in_default
 returns-in_default c = record { same = λ file. sym (no_kind file _ _ _ _ c.in_default.in_default-own.rest.0.0.0.0.0.0.0.0.1 c.in_default.in_default-own.rest.0.0.0.0.0.0.0.1 c.in_default.in_default-own.rest.0.0.0.0.0.0.1 c.in_default.in_default-own.rest.0.0.0.0.0.1 c.in_default.in_default-own.rest.0.0.0.0.1 c.in_default.in_default-own.rest.0.0.0.1 c.in_default.in_default-own.rest.0.0.1 c.in_default.in_default-own.rest.0.1 c.in_default.in_default-own.rest.1) ∙ sym (data_kind file c.args.types.now c.args.t _ c.head_at-head.result (omega (arith, c.word_at.ensures)) c.head_at-head.ensures refl); within = λ file sound. zero-le }

@@ -16,9 +16,9 @@ pub returns : goal.returns
 returns c =
     let file = c.args.file.now in
     let name = name_of file c.args.name in
-    let names = c.words_from-names.result.now in
+    let names = c.names_in.result.now in
     let items = c.types_in.result.now in
     field_found file name names items c.find.result c.map.result
     (find_from_yields_List (λ (p : ℕ × ℕ). eq_numbers (name_by file p.0) name) c.find.new.self _ c.find.result c.find.ensures.ran (YieldsList-from_zip (YieldsList-from_slice names cc) (YieldsList-from_slice items cc)) (λ x b q k. search (rules, tests)))
     (search (rules, tests))
-    ∙ ap₂ (λ x y. field_type (fields_of file x y) name) c.words_from-names.ensures c.types_in.ensures
+    ∙ ap₂ (λ x y. field_type (fields_of file x y) name) c.names_in.ensures c.types_in.ensures

@@ -65,7 +65,7 @@ pub measure_type-returns-in-FixedArray : goal.measure_type-returns-in-FixedArray
 measure_type-returns-in-FixedArray t c = omega (arith, c.measure_type-in-FixedArray.ensures, c.capped-in-FixedArray.ensures, c.decimal_length-digits.ensures.count, array_text_length (type_text (table_of c.args.types.now.file.now c.args.types.now.words.now)) c.in-FixedArray.element c.in-FixedArray.size, ap length (array_is c.args.types.now.file.now c.args.types.now.words.now c.args.t c.data.result c.data.ensures c.args.types.now.table_ok c.in-FixedArray.element c.in-FixedArray.size c.in-FixedArray.is))
 
 pub measure_type-returns-in-Struct : goal.measure_type-returns-in-Struct
-measure_type-returns-in-Struct t c = omega (arith, c.capped-in-Struct.ensures, c.decimal_length-first.ensures.count, c.decimal_length-second.ensures.count, definition_text_length (bytes "struct:") c.in-Struct.home c.in-Struct.definition, ap length (struct_is c.args.types.now.file.now c.args.types.now.words.now c.args.t c.data.result c.data.ensures c.args.types.now.table_ok c.in-Struct.home c.in-Struct.definition c.in-Struct.fields c.in-Struct.is))
+measure_type-returns-in-Struct t c = omega (arith, c.capped-in-Struct.ensures, c.definition_length-numbers.ensures.count, definition_text_length (bytes "struct:") c.in-Struct.home c.in-Struct.definition, ap length (struct_is c.args.types.now.file.now c.args.types.now.words.now c.args.t c.data.result c.data.ensures c.args.types.now.table_ok c.in-Struct.home c.in-Struct.definition c.in-Struct.fields c.in-Struct.is))
 
 pub measure_type-returns-in-Function : goal.measure_type-returns-in-Function
-measure_type-returns-in-Function t c = omega (arith, c.capped-in-Function.ensures, c.decimal_length-first-in-Function.ensures.count, c.decimal_length-second-in-Function.ensures.count, definition_text_length (bytes "fn:") c.in-Function.home c.in-Function.definition, ap length (function_is c.args.types.now.file.now c.args.types.now.words.now c.args.t c.data.result c.data.ensures c.args.types.now.table_ok c.in-Function.home c.in-Function.definition c.in-Function.params c.in-Function.return_type c.in-Function.is))
+measure_type-returns-in-Function t c = omega (arith, c.capped-in-Function.ensures, c.definition_length-numbers-in-Function.ensures.count, definition_text_length (bytes "fn:") c.in-Function.home c.in-Function.definition, ap length (function_is c.args.types.now.file.now c.args.types.now.words.now c.args.t c.data.result c.data.ensures c.args.types.now.table_ok c.in-Function.home c.in-Function.definition c.in-Function.params c.in-Function.return_type c.in-Function.is))
