@@ -9,6 +9,7 @@ use crate::items::ItemsRead;
 use crate::rows::Counts;
 use crate::{items, rows};
 use format::LineWord;
+use records::Index;
 use refusals::FileRefusal;
 
 // There is room for one more line of the kind.
@@ -54,11 +55,13 @@ fn in_place(word: LineWord, stage: u32) -> bool
 }
 
 // Whether one of the modules before row n has its name.
-fn is_again(file: &[u8], words: &[u32], n: u32) -> bool
-    ensures { result ≡ again file.now words.now n }
+fn is_again(index: &Index, n: u32) -> bool
+    ensures { result ≡ again index.now.file.now index.now.words.now n }
 {
-    let name = records::module_name(words, n);
-    (0..n).any(|m| semantic_index::names::same_name(file, records::module_name(words, m), name))
+    let name = records::module_name(index.words, n);
+    (0..n).any(|m| {
+        semantic_index::names::same_name(index.file, records::module_name(index.words, m), name)
+    })
 }
 
 fn is_module(word: LineWord) -> bool
@@ -68,17 +71,17 @@ fn is_module(word: LineWord) -> bool
 }
 
 // "A module name again": the name of a module's line stands in row n.
-fn is_repeated(file: &[u8], words: &[u32], word: LineWord, n: u32) -> bool
-    ensures { result ≡ repeated file.now words.now word n }
+fn is_repeated(index: &Index, word: LineWord, n: u32) -> bool
+    ensures { result ≡ repeated index.now.file.now index.now.words.now word n }
 {
-    is_module(word) && is_again(file, words, n)
+    is_module(word) && is_again(index, n)
 }
 
 // Whether a line of the kind may stand here.
-fn may_stand(file: &[u8], words: &[u32], word: LineWord, stage: u32, n: u32) -> bool
-    ensures { result ≡ may_stand file.now words.now word stage n }
+fn may_stand(index: &Index, word: LineWord, stage: u32, n: u32) -> bool
+    ensures { result ≡ may_stand index.now.file.now index.now.words.now word stage n }
 {
-    in_place(word, stage) && !is_repeated(file, words, word, n)
+    in_place(word, stage) && !is_repeated(index, word, n)
 }
 
 // The counts with one more record of the kind and its items.
@@ -146,7 +149,7 @@ pub fn step_on(file: &[u8], at: usize, words: &mut [u32], n: Counts) -> Result<N
     if items::MAX_ITEMS - n.items < read.count {
         return Err(FileRefusal::Limit);
     }
-    if !may_stand(file, words, word, n.stage, n.modules as u32) {
+    if !may_stand(&Index { file, words }, word, n.stage, n.modules as u32) {
         return Err(FileRefusal::Form);
     }
     if !words::is_byte(file, read.end, b'\n') {
