@@ -26,6 +26,7 @@ use type_table::Types;
 use views::Asked;
 
 // One line's answer: it stands at the start of the answer buffer, with its length; one of the refusals 6 to 10; or the question has no line of that number.
+// (No `Option` or `Result`: three cases that mean different things, as in document 01.)
 #[derive(Clone, Copy, PartialEq, Eq)]
 pub enum LineAnswer {
     Line(usize),
@@ -45,7 +46,7 @@ pub enum LinesAnswer {
     End(usize),
 }
 
-// What became of a line.
+// What became of a line. (Three cases, and so no `Option` or `Result`.)
 #[derive(Clone, Copy, PartialEq, Eq)]
 pub enum Step {
     Line(usize),
@@ -73,7 +74,7 @@ pub const ANSWER_BYTES: usize = 4160;
 // others of them, the type words are read through a `&` where a line is written, and of the answer bytes a line gets those behind the last one, so that each call would make
 // a struct of its own; and behind a `&mut` of such a struct the read leaves nothing known of the words but their length (see type_resolution).
 
-// Writes the line of a type. Without one the type words are all zero.
+// Writes the line of a type. Without one the type words are all zero. (It is given the words to change, and makes the `Types`: so it has the two clauses.)
 fn answer_typed(
     file: &[u8],
     types: &mut [u32],

@@ -17,7 +17,7 @@ use std::marker::Model;
 const ITEM_COUNT: usize = 2;
 
 // The line as far as it is written: the first `length` of the bytes. (type_text's `Writer` stays beside it: that one borrows its buffer and promises where in it the
-// bytes stand, while this one owns its bytes, and its model is the text, so that each promise is `self.new ≡ self.old ++ text`.)
+// bytes stand, while this one owns its bytes, as many as any line has (no heap), and its model is the text, so that each promise is `self.new ≡ self.old ++ text`.)
 #[derive(Drop)]
 struct LineBuffer {
     bytes: [u8; 192],

@@ -48,7 +48,7 @@ fn mark(seen: &mut [u32], at: usize)
     seen[at / 32] = marks | (1 << (at % 32));
 }
 
-// Whether two types are compatible. seen marks pairs that are known to be.
+// Whether two types are compatible. seen marks pairs that are known to be. (It returns early: behind the tests the store is changed.)
 #[cycle(compatible_compatible_lists_compatible_rows)]
 fn compatible(types: &Types, seen: &mut [u32], actual: u32, expected: u32) -> bool
     requires actual_bound { (actual < type_count types.now.words.now) × (expected < type_count types.now.words.now) }
@@ -127,7 +127,7 @@ fn compatible_lists(
 }
 
 // Whether two types are compatible, with a store of its own for the pairs that are known to be.
-// A bit for each pair, 8 KB: the compiler may put the store into the frame of each resolution function that compares types.
+// A bit for each pair, 8 KB, on the stack, since there is no heap: the compiler may put the store into the frame of each resolution function that compares types.
 fn compare_with_store(types: &Types, actual: u32, expected: u32) -> bool
     requires actual_bound { (actual < type_count types.now.words.now) × (expected < type_count types.now.words.now) }
     ensures { result ≡ are_types_compatible (table_of types.now.file.now types.now.words.now) actual expected }

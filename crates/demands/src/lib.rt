@@ -78,7 +78,7 @@ impl From<OpenDemand> for Place {
     }
 }
 
-// Makes the first 256 places zero, or all where there are fewer.
+// Makes the first 256 places zero, or all where there are fewer. (The body is `fill`; the promise is of this buffer.)
 pub fn clear(demands: &mut [Place])
     ensures { demands.new ≡ cleared_places demands.old }
 {

@@ -42,6 +42,7 @@ fn loaded_result(loaded: Result<(), FileRefused>) -> u64
     loaded.map_or_else(file_refused, |()| packed(0, 0, 0))
 }
 
+// This one and `lines_number`, and the C functions below, are alike in the lent buffers and the packing alone: each says another promise.
 fn line_number(answer: LineAnswer) -> u64
     ensures { LinePacked (line_numbers (Ok answer)) result }
 {

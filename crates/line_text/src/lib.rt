@@ -14,7 +14,7 @@ use type_table::Types;
 use type_text::{TextError, Writer};
 use views::Asked;
 
-// Why the line of a type is not written.
+// Why the line of a type is not written: the error of a `Result`.
 #[derive(Clone, Copy, PartialEq, Eq)]
 pub enum LineError {
     // What is asked is refused.
@@ -66,7 +66,7 @@ fn put_lead(asked: Asked, out: &mut Writer)
 
 // Writes the line of a type. The text goes straight behind the four lead fields, into the rest of the buffer lent from its middle; it is
 // measured before anything is written, and the lead fields and the LF come once it stands, so that a line without room and a refusal
-// leave the buffer as it is.
+// leave the buffer as it is. (The lead stands in fixed bytes first, here and below: no heap.)
 pub fn write_typed(types: &Types, t: u32, asked: Asked, out: &mut [u8]) -> Result<usize, LineError>
     ensures { TriedIs (asked_lead (asked_of asked)) (text_verdict (type_text (table_of types.now.file.now types.now.words.now) t)) out.old out.new result }
 {

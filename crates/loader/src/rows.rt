@@ -36,7 +36,7 @@ pub struct Tail {
     pub items: ItemsRead,
 }
 
-// An expression's origin: its number in the row, its link and its value, and where they end.
+// An expression's origin: its number in the row (a number, as in the lent words), its link and its value, and where they end.
 #[derive(Clone, Copy)]
 pub struct OriginWords {
     pub kind: u32,
@@ -94,7 +94,7 @@ fn last_word(shape: Shape, tail: Tail) -> u32
 
 // ------------------------------------------------------------------ rows
 
-// Puts the words of a row from `at` on.
+// Puts the words of a row from `at` on. (The body is `copy_from_slice`; the promise is of this layout.)
 pub fn put(words: &mut [u32], at: usize, row: &[u32])
     requires { at + length row.now ≤ length words.old }
     ensures { Put words.old at row.now words.new }

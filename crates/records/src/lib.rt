@@ -30,7 +30,7 @@ pub struct DefinitionIndex(pub u32);
 pub struct ExpressionId(pub u32);
 
 // A record's number within its module: one of the three, or a bare number, as a T has. (The trait is no `From` and `Into`: the ghost field gives the number of
-// which the promise of `link` speaks.)
+// which the promise of `link` speaks. The impls are the table of the instances.)
 pub trait RecordNumber: Copy {
     ghost number: { Self → ℕ };
 
@@ -297,7 +297,8 @@ pub const QUESTION_COUNT: usize = 1;
 
 // What a word of these kinds means, by its number. A number past a table's last means the last. Kinds whose rows hold more than the number are read by a
 // `match` of it (`type_expr_of`, `definition_kind`, `origin_of`, `expression_of`, `question_of`): the rows are lent words, and these functions are the one
-// place that gives the numbers a meaning (docs/LAYOUT.md).
+// place that gives the numbers a meaning (docs/LAYOUT.md). `scope_kind`, `unary_op`, `binary_op`, `name_of`, `items_of` and `suffix_of` are the forms of one word: no conversion by
+// std, since their promise is of any word.
 const SCOPE_KINDS: [ScopeKind; 4] = [
     ScopeKind::Module,
     ScopeKind::Function,
@@ -763,6 +764,7 @@ pub fn item_value(words: &[u32], first: u32, i: u32) -> u32
     word_at(words, ITEMS + 2 * ((first as usize) + (i as usize)))
 }
 
+// (No library reads an item.)
 pub fn item_link(words: &[u32], first: u32, i: u32) -> Option<ExpressionId>
     ensures { expression_link_of result ≡ link_by (item_value words.now (first + i)) }
 {

@@ -4,7 +4,7 @@
 ghost use Rattle.std.specs.Prelude.{◌≡◌};
 ghost use Rattle.refusals.specs.Numbers.{refusal_number, file_refusal_number};
 
-// Why a question is refused.
+// Why a question is refused: the error of a `Result`.
 #[derive(Clone, Copy, PartialEq, Eq)]
 pub enum Refusal {
     // A child is missing that the Rust unwraps.
@@ -19,7 +19,7 @@ pub enum Refusal {
     LongText,
 }
 
-// Why a file is refused.
+// Why a file is refused, likewise.
 #[derive(Clone, Copy, PartialEq, Eq)]
 pub enum FileRefusal {
     // A buffer is too short.

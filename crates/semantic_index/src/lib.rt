@@ -321,6 +321,7 @@ pub fn expression_at_position(words: &[u32], m: u32, position: u32) -> Option<Ex
 
 // ------------------------------------------------------------------ the function of a `return`
 
+// (`matches!`, here and in `is_top_level_allowed`, is the definition's test.)
 fn is_function(kind: DefinitionKind) -> bool
     ensures { (file words : List ℕ) → result ≡ is_function (definition_kind_of file words kind) }
 {
@@ -337,7 +338,7 @@ fn is_function_row(words: &[u32], first: u32, d: u32) -> bool
 }
 
 // The first function definition whose scope is the given one or an ancestor. Two loops, of which the inner one goes up the ancestors and the outer one is
-// left by its label at the first fit: the table "The form of each place" of docs/ARCHITECTURE has it.
+// left by its label at the first fit: document 01 names this form (docs/ARCHITECTURE, "The form of each place").
 pub fn first_function_around(words: &[u32], m: u32, s: FileScopeId) -> Option<DefinitionIndex>
     ensures { (file : List ℕ) → definition_link_of result
         ≡ first_function_around (module_row file words.now m) s.0 }

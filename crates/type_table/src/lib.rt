@@ -503,7 +503,7 @@ pub fn suffix_type(file: &[u8], suffix: Option<Name>) -> Option<u32>
 // The file stands beside the words here, and not in a `Types` with them: these change the words, which a `Types` lends to be read. Each of the five makes the head of
 // its kind, and has in common with the others the call of `intern`.
 
-// Whether a type is that of a row.
+// Whether a type is that of a row. (No library compares a row; its three parts are compared by `==` and `all`.)
 fn same_row(types: &[u32], t: u32, new: &NewType) -> bool
     ensures { result ≡ same_rows new.now.file.now new.now.head new.now.names.now new.now.items.now types.now t }
 {
@@ -669,6 +669,7 @@ pub fn intern_struct(
     requires all_below { AllBelow (type_count types.old) elements.now }
     ensures { Interns index.now.file.now (Data.Struct m d (typed_fields (names_with_types_of index.now.file.now index.now.words.now fields) elements.now)) types.old types.new result }
 {
+    // Fixed memory: there is no heap.
     let mut names = [0u32; 2048];
     copy_names(index.words, fields, &mut names);
     let count = fields.count as usize;

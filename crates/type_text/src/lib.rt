@@ -15,7 +15,7 @@ const MAX_TEXT: usize = 4096;
 // The length that stands for every one over the limit: 4,097, as in the promise `min 4097 ..`, which is one equation; an Option of a length would make it two.
 const OVER: usize = 4097;
 
-// Why a type's text is not written.
+// Why a type's text is not written: the error of a `Result`.
 #[derive(Clone, Copy, PartialEq, Eq)]
 pub enum TextError {
     // It has over 4,096 bytes.

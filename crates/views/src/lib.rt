@@ -65,6 +65,7 @@ pub fn position_expression(words: &[u32], m: u32, position: u32) -> Option<Expre
 
 // ------------------------------------------------------------------ what a record is
 
+// (`matches!` is the definition's test.)
 fn is_array_expr(t: TypeExpr) -> bool
     ensures { (file words : List ℕ) → result ≡ is_array_expr (type_expr_of file words t) }
 {
