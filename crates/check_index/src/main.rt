@@ -2,7 +2,7 @@
 // expressions, questions and items it has, or `refused`, the refusal's number and its line; parted by tabs.
 #![tactic(auto)]
 
-ghost use Rattle.std.specs.Prelude.{◌≡◌, ◌+◌, ◌*◌, ◌≤◌, [], ◌∷◌, ◌++◌, List, ℕ, length, take};
+ghost use Rattle.std.specs.Prelude.{◌≡◌, ◌+◌, ◌*◌, ◌≤◌, [], ◌∷◌, ◌++◌, IfOk, List, ℕ, length, take};
 ghost use Rattle.check_index.specs.Line.{counted, counts, row_total, accepted_line, refused_line, line_of, loading_line};
 ghost use Rattle.format.specs.Load.{load};
 ghost use Rattle.records.specs.Meaning.{row_kind_number};
@@ -161,7 +161,9 @@ fn check_file(file: &[u8], words: &mut [u32]) -> LineBuffer
 
 // What stands on standard input, as far as the space takes it. How many reads that takes is known only when the last is done, so no `for` goes over them.
 // The space is fixed memory: std's reading to the end would take a Vec. (`resolve` has the same function: a library for two programs would be as long.)
-fn read_input(rt: HostRuntime, space: &mut [u8]) -> std::io::Result<&[u8]> {
+fn read_input(rt: HostRuntime, space: &mut [u8]) -> std::io::Result<&[u8]>
+    ensures { IfOk result (λ file. length file.now ≤ length space.old) }
+{
     let mut input = rt.stdin();
     let mut n = 0;
     while n < space.len() {

@@ -1,7 +1,7 @@
 // Reads an index file from standard input and prints the answer lines of its questions, or the line of its refusal.
 #![tactic(auto)]
 
-ghost use Rattle.std.specs.Prelude.{◌≡◌, ◌≤◌, length};
+ghost use Rattle.std.specs.Prelude.{◌≡◌, ◌≤◌, IfOk, length};
 ghost use Rattle.resolution.specs.Resolve.{refusal_line};
 ghost use Rattle.answers.specs.Steps.{Long};
 ghost use Rattle.resolve.specs.Parts.{RefusedPut, PartIs};
@@ -49,7 +49,9 @@ fn next_part(
 
 // What stands on standard input, as far as the space takes it. How many reads that takes is known only when the last is done, so no `for` goes over them.
 // The space is fixed memory: std's reading to the end would take a Vec. (`check_index` has the same function: a library for two programs would be as long.)
-fn read_input(rt: HostRuntime, space: &mut [u8]) -> io::Result<&[u8]> {
+fn read_input(rt: HostRuntime, space: &mut [u8]) -> io::Result<&[u8]>
+    ensures { IfOk result (λ file. length file.now ≤ length space.old) }
+{
     let mut input = rt.stdin();
     let mut n = 0;
     while n < space.len() {
