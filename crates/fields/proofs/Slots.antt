@@ -14,10 +14,12 @@ use Rattle.words.specs.Packed.{candidate_place}
 use Rattle.words.specs.Ends.{begins}
 use Rattle.words.proofs.Bytes.{begins_here}
 use Rattle.words.proofs.Tables.{maps, candidate_first}
+use Rattle.format.specs.Lines as lines
 use Rattle.format.specs.Lines.{word_here}
 use Rattle.fields.specs.declared.Slot.{Slot}
+use Rattle.fields.specs.declared.FieldHere.{FieldHere}
 use Rattle.fields.specs.declared.WordRead.{WordRead}
-use Rattle.fields.specs.Held.{value_is, slot_is, word_is, field_as}
+use Rattle.fields.specs.Held.{value_is, slot_is, field_is, word_is, field_as}
 use Rattle.fields.proofs.Numbers.{behind_at}
 
 -- ------------------------------------------------------------------ the bytes of a field
@@ -158,6 +160,34 @@ module _ {A : Type 0} (word_of : Text → Option A) (s : Text) (e : ℕ) where
 
       same_rest : behind (drop (e + 1) s) ≡ drop x s
       same_rest = behind_at s (e + 1) ∙ ap (λ n. drop n s) (sym q)
+
+-- the word that a field behind a tab is, where `Some` reads any field as its own bytes
+module _ {A : Type 0} (word_of : Text → Option A) where
+  abbrev in_field : Option (lines.WordRead Text) → Option (lines.WordRead A)
+  in_field o = let_some o None λ f. let_some (word_of f.word) None λ w. Some (record { word = w; rest = f.rest })
+
+  word_of_field : (t : Text) → word_here word_of t ≡ in_field (word_here Some t)
+  unfolding word_here
+  word_of_field t = at_tab (behind_tab t)
+    where
+      any : Option Text → Option (lines.WordRead Text)
+      any o = let_some o None λ u. let_some (Some (field_of u)) None λ w. Some (record { word = w; rest = behind u })
+
+      at_tab : (o : Option Text) → (let_some o None λ u. let_some (word_of (field_of u)) None λ w. Some (record { word = w; rest = behind u })) ≡ in_field (any o)
+      at_tab None = refl
+      at_tab (Some u) = refl
+
+  -- what the definition reads where the code has read a field, whatever it holds, and where it has not
+  module _ (s t : Text) (r : Option FieldHere) (q : field_is s r ≡ word_here Some t) where
+    pub field_lost : r ≡ None → word_here word_of t ≡ None
+    field_lost h = word_of_field t ∙ ap in_field (sym q ∙ ap (field_is s) h)
+
+    pub field_read : (f : FieldHere) (o : Option A) → r ≡ Some f → o ≡ word_of (take (f.end - f.from) (drop f.from s))
+        → word_here word_of t ≡ (let_some o None λ w. Some (record { word = w; rest = drop f.end s }))
+    field_read f o h is =
+        word_of_field t
+        ∙ ap in_field (sym q ∙ ap (field_is s) h)
+        ∙ ap (λ v. let_some v None λ w. Some (record { word = w; rest = drop f.end s })) (sym is)
 
 -- what the definition reads where the code has read a word, and where it has not
 module _ {A : Type 0} (word_of : Text → Option A) (s t : Text) (r : Option (WordRead A)) (q : word_is s r ≡ word_here word_of t) where

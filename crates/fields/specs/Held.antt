@@ -1,5 +1,5 @@
 -- What the answers stand for: a text is a part of the file s, and what is left of a line begins where the field ends. Assumes nothing.
-use Rattle.std.specs.Prelude.{ℕ, Bool, ◌+◌, ◌<◌, ◌≤◌, true, false, ◌&&◌, [], ◌∷◌, leb, length, drop}
+use Rattle.std.specs.Prelude.{ℕ, Bool, ◌+◌, ◌-◌, ◌<◌, ◌≤◌, true, false, ◌&&◌, [], ◌∷◌, leb, length, take, drop}
 use Rattle.std.specs.Prelude.{Option, None, Some}
 use Rattle.model.specs.Common.{Text, let_some}
 use Rattle.records.specs.Layout.{bytes_at}
@@ -8,6 +8,7 @@ use Rattle.format.specs.declared.Kind.{Kind}
 use Rattle.fields.specs.declared.Value.{Value}
 use Rattle.format.specs.Lines as lines
 use Rattle.fields.specs.declared.Slot.{Slot}
+use Rattle.fields.specs.declared.FieldHere.{FieldHere}
 use Rattle.fields.specs.declared.WordRead.{WordRead}
 
 abbrev pub value_is : Text → Value → format.Value
@@ -18,6 +19,16 @@ value_is s (Value.Text p n) = format.Value.text (bytes_at s p n)
 abbrev pub slot_is : Text → Option Slot → Option format.Read
 slot_is s None = None
 slot_is s (Some r) = Some (record { value = value_is s r.value; rest = drop r.end s })
+
+-- a field, whatever it holds, is read as its own bytes
+abbrev pub field_is : Text → Option FieldHere → Option (lines.WordRead Text)
+field_is s None = None
+field_is s (Some f) = Some (record { word = take (f.end - f.from) (drop f.from s); rest = drop f.end s })
+
+-- so that a field behind the tab at `at` can be lent as a part of the file
+abbrev pub Lendable : Text → ℕ → Option FieldHere → Type 0
+Lendable s at None = Unit {0}
+Lendable s at (Some f) = (at < f.from) × (f.from ≤ f.end) × (f.end ≤ length s)
 
 abbrev pub word_is : {A : Type 0} → Text → Option (WordRead A) → Option (lines.WordRead A)
 word_is s None = None

@@ -2,13 +2,13 @@
 // alone: a name's word holds its place in the whole file.
 #![tactic(auto)]
 
-ghost use Rattle.std.specs.Prelude.{◌≡◌, ◌+◌, ◌≤◌, ◌&&◌, length, drop};
+ghost use Rattle.std.specs.Prelude.{◌≡◌, ◌+◌, ◌≤◌, ◌&&◌, length, drop, Some};
 ghost use Rattle.model.specs.Common.{is_empty};
 ghost use Rattle.format.specs.Fields.{field_of, is_dash, number_of, numbered, name_value, value_of, is_nothing, slot};
 ghost use Rattle.format.specs.declared.Kind.{Kind};
 ghost use Rattle.words.specs.Packed.{candidate_place};
 ghost use Rattle.format.specs.Lines.{word_here};
-ghost use Rattle.fields.specs.Held.{slot_is, word_is, Inside, may_be_absent, field_as, scanned, visible_run};
+ghost use Rattle.fields.specs.Held.{slot_is, field_is, Lendable, word_is, Inside, may_be_absent, field_as, scanned, visible_run};
 
 use format::Kind;
 use words::{PlaceWord, end_before, field_end, find_word, is_byte};
@@ -219,6 +219,26 @@ pub fn read_slot(file: &[u8], kind: Kind, at: usize) -> Option<Slot>
 
 // ---- a word
 
+// Where the field behind a tab begins and ends.
+#[derive(Clone, Copy)]
+pub struct FieldHere {
+    pub from: usize,
+    pub end: usize,
+}
+
+// The field behind the tab that stands at `at`, whatever it holds.
+pub fn field_here(file: &[u8], at: usize) -> Option<FieldHere>
+    ensures is { field_is file.now result ≡ word_here Some (drop at file.now) }
+    ensures lent { Lendable file.now at result }
+{
+    if !is_byte(file, at, b'\t') {
+        return None;
+    }
+    let from = at + 1;
+    let end = field_end(file, from);
+    Some(FieldHere { from, end })
+}
+
 // A word of its place, and where its field ends.
 #[derive(Clone, Copy)]
 pub struct WordRead<W> {
@@ -231,11 +251,10 @@ pub fn word_here<W: PlaceWord>(file: &[u8], at: usize) -> Option<WordRead<W>>
     ensures is { word_is file.now result ≡ word_here W.meaning (drop at file.now) }
     ensures inside { Inside file.now at result }
 {
-    if !is_byte(file, at, b'\t') {
-        return None;
-    }
-    let from = at + 1;
-    let end = field_end(file, from);
-    let word = words::word(&file[from..end])?;
-    Some(WordRead { word, end })
+    let field = field_here(file, at)?;
+    let word = words::word(&file[field.from..field.end])?;
+    Some(WordRead {
+        word,
+        end: field.end,
+    })
 }

@@ -181,7 +181,7 @@ line_shorter LineWord.Q t =
 -- a line takes at least its LF
 pub step_shorter : (s : Seen) (t : Text) (s₁ : Seen) (t₁ : Text) → step_on s t ≡ go s₁ t₁ → length t₁ < length t
 step_shorter s t s₁ t₁ e =
-    let (w, added) = step_go s t s₁ t₁ e in
+    let (w, is, added) = step_go s t s₁ t₁ e in
     let read : length added.line.rest ≤ length (behind t) = every_some (line_shorter w (behind t)) added.read in
     let ended : length added.line.rest ≡ suc (length t₁) = ap length added.ends in omega (arith, read, ended, behind_shorter t)
 

@@ -37,7 +37,7 @@ index_in (wrong k line) other = other
 
 step_grown : (version : ℕ) (s : Seen) (t : Text) (s₁ : Seen) (t₁ : Text) → step_on s t ≡ go s₁ t₁ → Growing version s.index → Growing version s₁.index
 step_grown version s t s₁ t₁ e g =
-    let (w, added) = step_go s t s₁ t₁ e in
+    let (w, is, added) = step_go s t s₁ t₁ e in
     subst (Growing version) added.is_added
     (grown version w added.line.entry s.index added.entry_of added.room added.items added.new g)
 

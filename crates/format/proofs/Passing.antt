@@ -83,13 +83,15 @@ judged_go w s t s₁ t₁ room e = at_line (line_from w t) refl e
           ends = rest;
         }
 
--- the line's first field is one of the six words
-pub step_go : (s : Seen) (t : Text) (s₁ : Seen) (t₁ : Text) → step_on s t ≡ go s₁ t₁ → (w : LineWord) × Added w s.index (behind t) s₁.index t₁
+-- the line's first field is one of the six words, and the line that is added is of that kind
+pub step_go : (s : Seen) (t : Text) (s₁ : Seen) (t₁ : Text) → step_on s t ≡ go s₁ t₁
+    → (w : LineWord) × (line_word_of (field_of t) ≡ Some w) × Added w s.index (behind t) s₁.index t₁
 unfolding step_on
-step_go s t s₁ t₁ e = at_word (line_word_of (field_of t)) e
+step_go s t s₁ t₁ e = at_word (line_word_of (field_of t)) refl e
   where
-    at_word : (o : Option LineWord) → (let_some o (refuse 4) λ w. counted w s (behind t)) ≡ go s₁ t₁ → (w : LineWord) × Added w s.index (behind t) s₁.index t₁
-    at_word None h = absurd (refuse≢go h)
-    at_word (Some w) h =
+    at_word : (o : Option LineWord) → line_word_of (field_of t) ≡ o → (let_some o (refuse 4) λ w. counted w s (behind t)) ≡ go s₁ t₁
+        → (w : LineWord) × (line_word_of (field_of t) ≡ Some w) × Added w s.index (behind t) s₁.index t₁
+    at_word None is h = absurd (refuse≢go h)
+    at_word (Some w) is h =
         let (room, h₁) = guarded (has_line_room w s.index) 3 (judged w s (line_from w (behind t))) s₁ t₁ h in
-        (w, judged_go w s (behind t) s₁ t₁ room h₁)
+        (w, is, judged_go w s (behind t) s₁ t₁ room h₁)

@@ -7,3 +7,4 @@ pub mod Searches
 pub mod Options
 pub mod Packing
 pub mod Stores
+pub mod Eleven

@@ -1,14 +1,15 @@
 -- For whoever writes the words: what a store leaves of the rows, and what the rows that it wrote hold. Assumes nothing.
 use mathlib.Core.Path.{◌≡◌, refl, sym, ap, ◌∙◌}
-use mathlib.Core.Logic.{◌⊎◌, inl, inr}
-use Prim.Native.Nat.{ℕ, ◌+◌, ◌/◌, ◌%◌, ◌≤◌, ◌<◌}
-use native.Mathlib.Nat.{add-zero}
+use mathlib.Core.Logic.{◌⊎◌, inl, inr, ⊎_elim}
+use Prim.Native.Nat.{ℕ, ◌+◌, ◌-◌, ◌/◌, ◌%◌, ◌≤◌, ◌<◌}
+use native.Mathlib.Nat.{add-zero, not-suc-le-zero, eq-or-lt_of_le}
 use native.Mathlib.Omega.{arith}
-use mathlib.Core.List.{List, [], ◌∷◌}
+use mathlib.Core.List.{List, [], ◌∷◌, ◌++◌}
 use mathlib.Core.Bool.{Bool, true, false}
 use lib.Dec.{ltb}
 use Rattle.model.proofs.Tests.{ltb_lt, ltb-false}
-use lib.ListN.{length}
+use lib.ListN.{length, set, length-set, length-append, get_or-append}
+use lib.Seq.{get_or-set_same, get_or-set_other, get_or-append_seam, get_or-append-add}
 use Rattle.model.specs.Records.{TypeExpr, DefinitionKind, Expression}
 use Rattle.records.specs.Layout.{
   scope_place,
@@ -49,12 +50,65 @@ use Rattle.records.proofs.Options.{no_more, ◌and◌, same, options_same}
 
 -- ------------------------------------------------------------------ stores
 
+pub put_nothing : (words : List ℕ) (at : ℕ) → Put words at [] words
+put_nothing words at = record { long = refl; inside = λ k h. absurd (not-suc-le-zero h); outside = λ i h. refl }
+
+module _ {words : List ℕ} {at : ℕ} {values words' : List ℕ} (i v : ℕ) (p : Put words at values words') (here : i ≡ at + length values) (room : i < length words) where
+  more_length : length (values ++ (v ∷ [])) ≡ length values + 1
+  more_length = length-append values (v ∷ [])
+
+  more_old : (k : ℕ) → k < length values → word (set words' i v) (at + k) ≡ word (values ++ (v ∷ [])) k
+  more_old k h =
+      get_or-set_other words' i (at + k) v 0 (λ e. omega arith) ∙ p.inside k h ∙ sym (get_or-append values (v ∷ []) 0 k h)
+
+  more_new : (k : ℕ) → k ≡ length values → word (set words' i v) (at + k) ≡ word (values ++ (v ∷ [])) k
+  more_new k e =
+      ap (λ n. word (set words' i v) n) (ap (λ n. at + n) e ∙ sym here)
+      ∙ get_or-set_same words' i v 0 (let same = p.long in omega arith)
+      ∙ sym (get_or-append_seam values v [] 0)
+      ∙ ap (word (values ++ (v ∷ []))) (sym e)
+
+  more_outside : (j : ℕ) → (j < at) ⊎ (at + length (values ++ (v ∷ [])) ≤ j) → (j ≡ i → ⊥) × ((j < at) ⊎ (at + length values ≤ j))
+  more_outside j (inl lt) = (λ e. omega arith, inl lt)
+  more_outside j (inr le) = let l = more_length in (λ e. omega arith, inr (omega arith))
+
+  -- one word more
+  pub put_more : Put words at (values ++ (v ∷ [])) (set words' i v)
+  put_more = record {
+    long = length-set words' i v ∙ p.long;
+    inside = λ k h. let l = more_length in ⊎_elim (more_new k) (more_old k) (eq-or-lt_of_le (omega arith));
+    outside = λ j h. get_or-set_other words' i j v 0 (more_outside j h).0 ∙ p.outside j (more_outside j h).1;
+  }
+
 pub lt_or_ge : (a b : ℕ) → (a < b) ⊎ (b ≤ a)
 lt_or_ge a b = of (ltb a b) refl
   where
     of : (t : Bool) → ltb a b ≡ t → (a < b) ⊎ (b ≤ a)
     of true h = inl (ltb_lt a b h)
     of false h = inr (ltb-false a b h)
+
+-- one store behind the other
+pub put_append : {words : List ℕ} {at : ℕ} {values words' more words'' : List ℕ} → Put words at values words' → Put words' (at + length values) more words'' → Put words at (values ++ more) words''
+put_append {words} {at} {values} {words'} {more} {words''} p q =
+    record {
+      long = q.long ∙ p.long;
+      inside = λ k h. ⊎_elim (λ low. old k low) (λ high. new k (k - length values) (omega (arith, high)) (omega (arith, h, high, lengths))) (lt_or_ge k (length values));
+      outside = λ i h. q.outside i (apart i h).0 ∙ p.outside i (apart i h).1;
+    }
+  where
+    lengths : length (values ++ more) ≡ length values + length more
+    lengths = length-append values more
+
+    old : (k : ℕ) → k < length values → word words'' (at + k) ≡ word (values ++ more) k
+    old k low = q.outside (at + k) (inl (omega arith)) ∙ p.inside k low ∙ sym (get_or-append values more 0 k low)
+
+    new : (k j : ℕ) → k ≡ length values + j → j < length more → word words'' (at + k) ≡ word (values ++ more) k
+    new k j e low =
+        ap (word words'') (omega (arith, e)) ∙ q.inside j low ∙ sym (ap (word (values ++ more)) e ∙ get_or-append-add values more j 0)
+
+    apart : (i : ℕ) → (i < at) ⊎ (at + length (values ++ more) ≤ i) → ((i < at + length values) ⊎ (at + length values + length more ≤ i)) × ((i < at) ⊎ (at + length values ≤ i))
+    apart i (inl lt) = (inl (omega arith), inl lt)
+    apart i (inr le) = (inr (omega (arith, lengths)), inr (omega (arith, lengths)))
 
 -- ------------------------------------------------------------------ what the row holds that was put
 

@@ -1,14 +1,14 @@
 // The records of a loaded index, read from the record words. Any words hold some index: see specs/Layout.antt.
 #![tactic(auto)]
 
-ghost use Rattle.std.specs.Prelude.{◌≡◌, ℕ, ◌+◌, ◌&&◌, leb, List, None, Some, if◌then◌else◌, length};
+ghost use Rattle.std.specs.Prelude.{◌≡◌, ℕ, ◌+◌, ◌<◌, ◌&&◌, leb, List, None, Some, if◌then◌else◌, length};
 ghost use Rattle.std.specs.Prelude.{option_map, slice_get};
 ghost use Rattle.model.specs.Lookups.{module_at, scope_at, type_expr_at, definition_at, expression_at};
 ghost use Rattle.records.specs.Layout.{word, link_by, name_by, suffix_by, size_by, item_value, item_name};
 ghost use Rattle.records.specs.Layout.{scope_kind_by, type_expr_by, definition_kind_by, origin_by, unary_op_by};
 ghost use Rattle.records.specs.Layout.{binary_op_by, expression_by, question_by};
 ghost use Rattle.records.specs.Layout.{scope_row, type_expr_row, definition_row, expression_row, question_row};
-ghost use Rattle.records.specs.Layout.{module_row, index_of};
+ghost use Rattle.records.specs.Layout.{module_row, index_of, expression_place};
 ghost use Rattle.records.specs.Promises.{ListBy, RowsOf};
 ghost use Rattle.records.specs.Meaning.{name_of, numbers_of, links_of, names_with_types_of, scope_link_of};
 ghost use Rattle.records.specs.Meaning.{type_link_of, definition_link_of, expression_link_of, suffix_of};
@@ -268,6 +268,30 @@ pub enum RowKind {
     Expression = 4,
 }
 
+// Which of a module's rows are meant: those of a kind, or those of any word of the module's row by its number.
+pub trait WhichRows: Copy {
+    ghost number: { Self → ℕ };
+
+    fn get(self) -> u32
+        ensures { result ≡ number self };
+}
+
+impl WhichRows for RowKind {
+    ghost number = { row_kind_number };
+
+    fn get(self) -> u32 {
+        self as u32
+    }
+}
+
+impl WhichRows for u32 {
+    ghost number = { λ n. n };
+
+    fn get(self) -> u32 {
+        self
+    }
+}
+
 // A module's rows of one kind: where they begin, and how many there are.
 #[derive(Clone, Copy)]
 pub struct Rows {
@@ -373,10 +397,10 @@ pub fn suffix_of(v: u32) -> Option<Name>
 // The rows of a kind that a module has. They end where those of the next module begin.
 // A function for each kind counts them, and another reads one by its number: each promise speaks of another list of the module, so that one
 // function for all kinds would have to promise by cases. What they share is here, in `rows_of` and in `then`.
-pub fn rows_of(words: &[u32], m: u32, kind: RowKind) -> Rows
-    ensures { RowsOf words.now m (row_kind_number kind) result }
+pub fn rows_of<K: WhichRows>(words: &[u32], m: u32, kind: K) -> Rows
+    ensures { RowsOf words.now m (K.number kind) result }
 {
-    rows_at(words, m, kind as u32)
+    rows_at(words, m, kind.get())
 }
 
 // The rows that a module has by any word of its row, those of the four kinds among them.
@@ -627,22 +651,57 @@ fn expression_of(kind: u32, a: u32, b: u32, c: u32) -> Expression
     }
 }
 
+// The eleven words of an expression's row, 0 past the end. A row within the buffer is read at once: one test of the buffer's length in place of eleven.
+fn expression_words(words: &[u32], first: u32, i: u32) -> [u32; 11]
+    ensures { (k : ℕ) → k < 11 → word result k ≡ word words.now (expression_place (first + i) + k) }
+{
+    let at = EXPRESSIONS + 11 * ((first as usize) + (i as usize));
+    if at + 11 <= words.len() {
+        return [
+            words[at],
+            words[at + 1],
+            words[at + 2],
+            words[at + 3],
+            words[at + 4],
+            words[at + 5],
+            words[at + 6],
+            words[at + 7],
+            words[at + 8],
+            words[at + 9],
+            words[at + 10],
+        ];
+    }
+    [
+        word_at(words, at),
+        word_at(words, at + 1),
+        word_at(words, at + 2),
+        word_at(words, at + 3),
+        word_at(words, at + 4),
+        word_at(words, at + 5),
+        word_at(words, at + 6),
+        word_at(words, at + 7),
+        word_at(words, at + 8),
+        word_at(words, at + 9),
+        word_at(words, at + 10),
+    ]
+}
+
 pub fn expression_row(words: &[u32], first: u32, i: u32) -> ExpressionInfo
     ensures { (file : List ℕ) → info_of file words.now result
         ≡ expression_row file words.now (first + i) }
 {
-    let at = EXPRESSIONS + 11 * ((first as usize) + (i as usize));
-    let kinds = word_at(words, at);
-    let scope = word_at(words, at + 1);
-    let start = word_at(words, at + 2);
-    let end = word_at(words, at + 3);
-    let expected = link(word_at(words, at + 4));
-    let definition = link(word_at(words, at + 5));
-    let link = word_at(words, at + 6);
-    let value = word_at(words, at + 7);
-    let a = word_at(words, at + 8);
-    let b = word_at(words, at + 9);
-    let c = word_at(words, at + 10);
+    let row = expression_words(words, first, i);
+    let kinds = row[0];
+    let scope = row[1];
+    let start = row[2];
+    let end = row[3];
+    let expected = link(row[4]);
+    let definition = link(row[5]);
+    let link = row[6];
+    let value = row[7];
+    let a = row[8];
+    let b = row[9];
+    let c = row[10];
     let origin = origin_of(kinds / 256, link, value);
     let node = expression_of(kinds % 256, a, b, c);
     ExpressionInfo {

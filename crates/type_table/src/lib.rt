@@ -259,38 +259,54 @@ pub fn start(types: &mut [u32])
 
 // ------------------------------------------------------------------ reading rows
 
-// A type by its number; error where there is none.
+// The kind of a type's row.
+fn kind_at(types: &[u32], t: u32) -> u32
+    ensures { result ≡ (head_at types.now t).kind }
+{
+    records::word_at(types, 8 * (t as usize) + 2)
+}
+
+// A type by its number; error where there is none. Of the row the words of its kind alone are read: most types that are looked at are numbers.
 pub fn data(types: &[u32], t: u32) -> TypeData
     ensures { DataRead types.now t result }
 {
     if records::word_at(types, 0) <= t {
         return TypeData::Error;
     }
-    let head = head_at(types, t);
-    let list = list_at(types, t);
-    let kind = head.kind;
-    match kind {
+    match kind_at(types, t) {
         FELT => TypeData::Felt,
         BOOL => TypeData::Bool,
         U32 => TypeData::U32,
         UNKNOWN => TypeData::Unknown,
-        KIND_TUPLE => TypeData::Tuple(list),
-        KIND_POINTER => TypeData::Pointer(head.element),
-        KIND_ARRAY => TypeData::FixedArray {
-            element: head.element,
-            size: head.size,
-        },
-        KIND_STRUCT => TypeData::Struct {
-            home: head.home,
-            definition: head.definition,
-            fields: list,
-        },
-        KIND_FUNCTION => TypeData::Function {
-            home: head.home,
-            definition: head.definition,
-            params: list,
-            return_type: head.element,
-        },
+        KIND_TUPLE => TypeData::Tuple(list_at(types, t)),
+        KIND_POINTER => {
+            let head = head_at(types, t);
+            TypeData::Pointer(head.element)
+        }
+        KIND_ARRAY => {
+            let head = head_at(types, t);
+            TypeData::FixedArray {
+                element: head.element,
+                size: head.size,
+            }
+        }
+        KIND_STRUCT => {
+            let head = head_at(types, t);
+            TypeData::Struct {
+                home: head.home,
+                definition: head.definition,
+                fields: list_at(types, t),
+            }
+        }
+        KIND_FUNCTION => {
+            let head = head_at(types, t);
+            TypeData::Function {
+                home: head.home,
+                definition: head.definition,
+                params: list_at(types, t),
+                return_type: head.element,
+            }
+        }
         _ => TypeData::Error,
     }
 }

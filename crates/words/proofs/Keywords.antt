@@ -1,12 +1,20 @@
--- The first line, by its bytes. Assumes nothing.
-use mathlib.Core.Path.{◌≡◌, ap}
+-- The word at a place of a table of the definition, and the first line by its bytes. Assumes nothing.
+use Prim.Native.Nat.{ℕ}
+use mathlib.Core.Path.{◌≡◌, sym, ap}
+use mathlib.Core.List.{List}
 use mathlib.Core.Bool.{Bool, true, false}
 use Rattle.std.specs.Prelude.{None, Some}
 use lib.ListN.{take}
 use Rattle.format.specs.Load.{first_lines, first_line_length, version_of}
 use Rattle.std.specs.Prelude.{if◌then◌else◌}
 use Rattle.model.specs.Common.{Text, bytes, let_some, first, eq_numbers}
-use Rattle.format.specs.Words.{is_keyword, place_in, word_at}
+use Rattle.format.specs.Words.{Keyword, is_keyword, place_in, word_at}
+
+-- ------------------------------------------------------------------ the word at a place
+
+-- one place has one word
+pub word_key : {A : Type 0} (table : List (Keyword A)) (other : A) (k n : ℕ) → k ≡ n → word_at table other n ≡ word_at table other k
+word_key table other k n e = ap (λ m. word_at table other m) (sym e)
 
 -- ------------------------------------------------------------------ the first line
 
