@@ -12,7 +12,7 @@
  * what stands in the buffers before it, record words among it, has no part in the result.
  *
  * Not proved, but so by the sources, which declare no C function: the functions keep nothing between
- * two calls and allocate nothing; compiled, they call nothing but memcpy and its kin of the C library.
+ * two calls and allocate nothing; compiled, they call nothing but memcpy and memset of the C library.
  * So calls from several threads are fine as long as no two of them share a buffer that is written.
  *
  * What the caller promises: each pointer is valid for its length (counted in elements, not in bytes),

@@ -23,6 +23,8 @@ from runs import ROOT, VECTOR_FILES, vectors
 
 MADE = os.path.join(ROOT, "target", "library_runs")
 EXPORTED = {"roognaps_load", "roognaps_answer", "roognaps_answer_from"}
+# What the library may need of the C library: the header says so.
+NEEDED = {"memcpy", "memset"}
 WARNINGS = ["-Wall", "-Wextra", "-Werror", "-pedantic"]
 C11 = [*WARNINGS, "-std=c11", "-g"]
 CPP11 = [*WARNINGS, "-std=c++11", "-x", "c++"]
@@ -73,12 +75,14 @@ def steps_down(listing):
 
 
 def compiled_library(folder):
-    """What the compiled library has: the exported functions, and frames."""
+    """What the compiled library has: the exported functions, those that it needs, and frames."""
     if not shutil.which("objdump"):
-        say("objdump isn't at hand; exported functions and frames aren't looked at")
+        say("objdump isn't at hand; exported and needed functions and frames aren't looked at")
         return True
     archive = os.path.join(folder, "libexport.a")
-    return exported_functions(run(["objdump", "-t", archive], cwd=ROOT).stdout) and large_frames(run(["objdump", "-d", archive], cwd=ROOT).stdout)
+    symbols = run(["objdump", "-t", archive], cwd=ROOT).stdout
+    listing = run(["objdump", "-d", archive], cwd=ROOT).stdout
+    return exported_functions(symbols) and needed_functions(symbols) and large_frames(listing)
 
 
 def exported_functions(symbols):
@@ -88,6 +92,17 @@ def exported_functions(symbols):
     if found != EXPORTED:
         say(f"owed are {', '.join(sorted(EXPORTED))}")
     return found == EXPORTED
+
+
+def needed_functions(symbols):
+    """The library needs NEEDED of the C library and nothing else: who links it with a memcpy and memset of their own has all."""
+    found = {line.split()[-1] for line in symbols.splitlines() if "*UND*" in line}
+    say(f"libexport.a needs {', '.join(sorted(found))}")
+    if not found <= NEEDED:
+        say(f"at most {', '.join(sorted(NEEDED))} may be needed")
+    if not found:
+        say("the symbols weren't understood: the types are cleared by memset")
+    return bool(found) and found <= NEEDED
 
 
 def large_frames(listing):

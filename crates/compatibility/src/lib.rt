@@ -127,7 +127,8 @@ fn compatible_lists(
 }
 
 // Whether two types are compatible, with a store of its own for the pairs that are known to be.
-// A bit for each pair, 8 KB, on the stack, since there is no heap: the compiler may put the store into the frame of each resolution function that compares types.
+// A bit for each pair, 8 KB, on the stack, since there is no heap. Never inlined, so that only a comparison that needs the store lays it out.
+#[inline(never)]
 fn compare_with_store(types: &Types, actual: u32, expected: u32) -> bool
     requires actual_bound { (actual < type_count types.now.words.now) × (expected < type_count types.now.words.now) }
     ensures { result ≡ are_types_compatible (table_of types.now.file.now types.now.words.now) actual expected }
@@ -138,7 +139,9 @@ fn compare_with_store(types: &Types, actual: u32, expected: u32) -> bool
 
 // Whether a type may stand where another is expected. Only two tuples, two arrays or two pointers are compared with a store. Error and unknown are tested
 // before, and not in the last arm as in `compatible_rows`: of an arm with more patterns than one the proof doesn't know which holds, so not that the
-// numbers are of the table. The two tests return each by itself, since the rows are read between them, and only where the numbers differ.
+// numbers are of the table. The two tests return each by itself, since the rows are read between them, and only where the numbers differ. Inlined: most types that
+// are compared have the same number, and then nothing is called.
+#[inline(always)]
 pub fn are_types_compatible(types: &Types, actual: u32, expected: u32) -> bool
     ensures { result ≡ are_types_compatible (table_of types.now.file.now types.now.words.now) actual expected }
 {

@@ -106,6 +106,8 @@ fn is_open(demands: &[Place], depth: usize, d: OpenDemand) -> bool
 
 // Opens a demand at `depth`, and gives the number of open ones with it: refused where it is open already, and then where no place is free.
 // It asks for the 256 places and a depth within them: it is called at each demand, and `answers`, the only lender, has tested the length once.
+// Inlined: the caller knows which of the five it opens, so that neither the search nor the new place looks for it.
+#[inline(always)]
 pub fn enter(demands: &mut [Place], depth: usize, d: OpenDemand) -> Result<usize, Refusal>
     requires { (depth ≤ 256) × (256 ≤ length demands.old) }
     ensures { Opens (demand_of d) depth demands.old demands.new result }

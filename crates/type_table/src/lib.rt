@@ -224,13 +224,15 @@ fn same_names(file: &[u8], a: &[u32], b: &[u32]) -> bool
 }
 
 // Copies all of src to a place. (loader's `put`, that of type_text's `Writer` and that of check_index's `LineBuffer` write at a place too; each promises what its
-// own layout is read by.)
+// own layout is read by. A loop, and not `copy_from_slice`: compiled, that calls memmove where nothing says that the slices lie apart, as here, and the library for C
+// would need it.)
 fn copy_to(words: &mut [u32], at: usize, src: &[u32])
     requires { at + length src.now ≤ length words.old }
     ensures { Copied at src.now words.old words.new }
 {
-    let end = at + src.len();
-    words[at..end].copy_from_slice(src);
+    for i in 0..src.len() {
+        words[at + i] = src[i];
+    }
 }
 
 // Sets the first 8,192 words to zero. (`demands` and `loader` have a `clear` of their own: each knows how many words its buffer counts, and promises that much.)
@@ -266,7 +268,9 @@ fn kind_at(types: &[u32], t: u32) -> u32
     records::word_at(types, 8 * (t as usize) + 2)
 }
 
-// A type by its number; error where there is none. Of the row the words of its kind alone are read: most types that are looked at are numbers.
+// A type by its number; error where there is none. Of the row the words of its kind alone are read: most types that are looked at are numbers. Inlined, so that a
+// caller that needs the kind alone, as `numeric`, reads no more.
+#[inline(always)]
 pub fn data(types: &[u32], t: u32) -> TypeData
     ensures { DataRead types.now t result }
 {

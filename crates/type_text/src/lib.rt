@@ -26,6 +26,16 @@ pub enum TextError {
 
 // ------------------------------------------------------------------ bytes and numbers
 
+// Copies a text over bytes of its length. (A loop, and not `copy_from_slice`, for the reason that type_table's `copy_to` gives.)
+fn copy(to: &mut [u8], text: &[u8])
+    requires { length to.old ≡ length text.now }
+    ensures { to.new ≡ text.now }
+{
+    for i in 0..text.len() {
+        to[i] = text[i];
+    }
+}
+
 // A lent buffer, and how far it is written. There is no heap: its functions ask for room, which their callers have measured.
 #[derive(Drop)]
 pub struct Writer<'a> {
@@ -49,7 +59,7 @@ impl<'a> Writer<'a> {
         ensures { Writes text.now self.old self.new }
     {
         let end = self.at + text.len();
-        self.out[self.at..end].copy_from_slice(text);
+        copy(&mut self.out[self.at..end], text);
         self.at = end;
     }
 

@@ -40,7 +40,7 @@
 //! The library: for any bytes, any numbers of a question and a line and any buffers, what a call gives
 //! and what it leaves in the buffers is what the definition says (`include/roognaps.h` has it call by
 //! call). It reads and writes nothing outside them, has no state, allocates nothing and calls nothing
-//! but `memcpy` and its kin. Not proved is this crate, which is small: it lends the buffers and reads
+//! but `memcpy` and `memset`. Not proved is this crate, which is small: it lends the buffers and reads
 //! the lines. What a [`Resolver`] gets is looked at before it is used; where it makes no sense, the call
 //! gives [`Error::Library`].
 //!

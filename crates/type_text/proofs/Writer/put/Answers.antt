@@ -8,4 +8,4 @@ pub returns : goal.returns
 returns c =
     let w = c.args.self.now in
     writes_put c.args.text.now w _ c.requires
-    (record { bytes = ap (put_mid w.at _ w.out.now) c.copy_from_slice.ensures.after ∙ put_mid_is w.out.now c.args.text.now w.at; next = refl }) refl
+    (record { bytes = ap (put_mid w.at _ w.out.now) c.copy.ensures ∙ put_mid_is w.out.now c.args.text.now w.at; next = refl }) refl
